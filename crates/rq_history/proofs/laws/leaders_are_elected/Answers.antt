@@ -1,0 +1,5 @@
+use Rattle.rq_history.proofs.laws.leaders_are_elected.Goals as goal
+use Rattle.rq_history.proofs.Statements.{leaders_are_elected}
+
+pub returns : goal.returns
+returns g c = λ view. leaders_are_elected view

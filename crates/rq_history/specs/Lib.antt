@@ -1,0 +1,7 @@
+pub mod History
+pub mod Quorum
+pub mod Configurations
+pub mod Moves
+pub mod Votes
+pub mod Commits
+pub mod Laws
