@@ -19,3 +19,4 @@ pub mod Meets
 pub mod Changing
 pub mod Passes
 pub mod Statements
+pub mod Runs

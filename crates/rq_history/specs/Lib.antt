@@ -5,3 +5,4 @@ pub mod Moves
 pub mod Votes
 pub mod Commits
 pub mod Laws
+pub mod Examples

@@ -2,4 +2,5 @@
 //! No code: each function of `laws` has an empty body, and its contract is a theorem about the definitions of `specs/`.
 #![tactic(auto)]
 
+pub mod examples;
 pub mod laws;
