@@ -77,13 +77,3 @@ module _ {E : Type 0} (view : EntryView E) where
     chosen_grows h i y s =
         let c = chosen_was h in
         subst (λ (l : List E). IsFront l (chosen (After h i y))) (sym c.same) (in_chosen (After h i y) s c.who c.node (inr c.was))
-
-    committed_fits : (h : History E) → Whole view voters h → (a : List E) (p : Committed h a) → length a ≡ p.node.commit
-    committed_fits h s a p = ap length p.same ∙ length-take-le p.node.commit p.node.log (backed view voters h s p.who p.node p.was).fits
-
-    pub committed_fronts : (h : History E) → Whole view voters h → (a b : List E) → Committed h a → Committed h b → length a ≤ length b → IsFront a b
-    committed_fronts h s a b p q le =
-        let x = committed_fits h s a p in
-        let y = committed_fits h s b q in
-        let f = fronts h s p.who q.who p.node q.node p.was q.was (omega arith) in
-        subst (λ (l : List E). IsFront l b) (sym p.same) (subst (λ (l : List E). IsFront (take p.node.commit p.node.log) l) (sym q.same) f)

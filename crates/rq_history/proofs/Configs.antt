@@ -1,7 +1,7 @@
 -- Where the newest configuration of a log stands.
 use Rattle.std.proofs.Common.{◌≡◌, ◌≢◌, ℕ, suc, zero, ◌+◌, ◌<◌, ◌≤◌, Bool, true, false, List, [], ◌∷◌, ◌++◌, length, take, ap, sym, ◌∙◌, ⊎_elim, arith}
 use Rattle.std.proofs.lemmas.Bool.{cases_lt, cases_eq}
-use Rattle.std.proofs.lemmas.List.{length-take, take-take, length-append}
+use Rattle.std.proofs.lemmas.List.{length-take, take-take, length-append, take-append-le}
 use Rattle.std.specs.Prelude.{Option}
 use Rattle.rq_history.specs.History.{NodeId, EntryView, entry_at}
 use Rattle.rq_history.specs.Configurations.{is_given, is_configuration, configuration_index, voters_or, newest_voters, voters_in, greatest}
@@ -51,10 +51,6 @@ module _ {E : Type 0} (view : EntryView E) where
       let b = index_within (take k log) log k (omega arith) t (omega arith) in
       omega arith
 
-  -- a front has no newer one
-  pub index_front : (log : List E) (k : ℕ) → configuration_index view (take k log) ≤ k
-  index_front log k = omega (arith, index_fits (take k log), length-take k log)
-
   module _ (first : List NodeId) where
     -- the same newest configuration
     pub voters_same : (a b : List E) (n : ℕ) → configuration_index view a ≤ n → take n a ≡ take n b → configuration_index view a ≡ configuration_index view b → newest_voters view first a ≡ newest_voters view first b
@@ -75,3 +71,29 @@ module _ {E : Type 0} (view : EntryView E) where
         let fit = index_fits (a ++ e ∷ []) in
         let is : configuration_index view (a ++ e ∷ []) ≡ length a + 1 = omega arith in
         ap (λ (k : ℕ). voters_or first (voters_in view (entry_at (a ++ e ∷ []) k))) is ∙ ap (λ (x : Option E). voters_or first (voters_in view x)) new
+
+    -- after another entry was appended
+    pub voters_stay : (a : List E) (e : E) → is_given (view.voters_of e) ≡ false → newest_voters view first (a ++ e ∷ []) ≡ newest_voters view first a
+    voters_stay a e m = voters_same (a ++ e ∷ []) a (length a) low same (omega (arith, up, down))
+      where
+        same : take (length a) (a ++ e ∷ []) ≡ take (length a) a
+        same = take-append-le (length a) a (e ∷ []) (omega arith)
+
+        not_last : (k : ℕ) → k ≡ length a + 1 → is_configuration view (a ++ e ∷ []) k ≡ true → Prim.⊥
+        not_last k is conf =
+            let last : is_configuration view (a ++ e ∷ []) (length a + 1) ≡ true = rw is at conf in
+            let none : is_configuration view (a ++ e ∷ []) (length a + 1) ≡ false = ap (λ (x : Option E). is_given (voters_in view x)) (entry_new a e) ∙ m in
+            cc
+
+        low : configuration_index view (a ++ e ∷ []) ≤ length a
+        low = ⊎_elim
+            (λ (big : length a < configuration_index view (a ++ e ∷ [])).
+            absurd (not_last (configuration_index view (a ++ e ∷ [])) (omega (arith, index_fits (a ++ e ∷ []), length-append a (e ∷ []))) (index_is (a ++ e ∷ []) (omega arith))))
+            (λ (small : configuration_index view (a ++ e ∷ []) ≤ length a). small)
+            (cases_lt (length a) (configuration_index view (a ++ e ∷ [])))
+
+        up : configuration_index view (a ++ e ∷ []) ≤ configuration_index view a
+        up = index_within (a ++ e ∷ []) a (length a) low same low
+
+        down : configuration_index view a ≤ configuration_index view (a ++ e ∷ [])
+        down = index_within a (a ++ e ∷ []) (length a) (index_fits a) (sym same) (omega (arith, index_fits a, length-append a (e ∷ [])))

@@ -12,11 +12,6 @@ use Rattle.rq_history.proofs.Votes.{older}
 use Rattle.rq_history.proofs.Origins.{origins, led_same, matching}
 
 module _ {E : Type 0} (view : EntryView E) where
-  -- the first n entries of one log are in another, or aren't, as its terms tell
-  pub record Says (a b : List E) (n : ℕ) : Type 0 where
-    pub fits : n ≤ length a
-    pub same : take n a ≡ take n b
-
   pub lost_later : (h : History E) (k : NodeId) (y : Node E) (low high more n : ℕ) (log : List E) → high ≤ more → Lost h low high n log → Lost (After h k y) low more n log
   lost_later h k y low high more n log le o = record { who = o.who; leader = o.leader; was = inr o.was; leads = o.leads; above = o.above; under = omega (arith, o.under); lacks = o.lacks }
 

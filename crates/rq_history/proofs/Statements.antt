@@ -1,11 +1,11 @@
 -- The laws, each from the lemma that proves it.
-use Rattle.std.proofs.Common.{◌≡◌, ◌⊎◌, ℕ, ◌<◌, ◌≤◌, take, refl, sym, subst, ◌∙◌, inl, inr, ⊎_elim, arith}
+use Rattle.std.proofs.Common.{◌≡◌, ap, ◌⊎◌, ℕ, ◌<◌, ◌≤◌, take, refl, sym, subst, ◌∙◌, inl, inr, ⊎_elim, arith}
 use Rattle.std.proofs.lemmas.Bool.{cases_lt}
 use Rattle.rq_history.specs.History.{NodeId, EntryView, After, now, Was, Led, term_at}
 use Rattle.rq_history.specs.Configurations.{newest_voters}
 use Rattle.rq_history.specs.Votes.{Election}
 use Rattle.rq_history.specs.Commits.{Backing}
-use Rattle.rq_history.specs.Laws.{OneLeaderATerm, OneVoteATerm, TimeGoesOn, LogsMatch, EntriesComeFromLeaders, TermsRise, TermsAreReached, LeadersGrow, LeadersDontStandAgain, VotesTell, LeadersAreElected, LeadersAreComplete, CommitsAreBacked, CommittedStays, LeadersAgree, CommittedFrontsAgree, ChosenGrows, ChosenHolds, ChosenWasCommitted, LeadersCover, LaterEntriesCover, NeighboursMeet, MeetingQuorumsSuffice, MomentsAreOrdered, ChangesAreLocal}
+use Rattle.rq_history.specs.Laws.{OneLeaderATerm, OneVoteATerm, TimeGoesOn, LogsMatch, EntriesComeFromLeaders, TermsRise, TermsAreReached, LeadersGrow, LeadersDontStandAgain, VotesTell, LeadersAreElected, LeadersAreComplete, CommitsAreBacked, CommittedStays, LeadersAgree, CommittedFrontsAgree, ChosenGrows, ChosenHolds, ChosenWasCommitted, LeadersCover, LaterEntriesCover, NeighboursMeet, ConfigurationsCountFromAppend, MeetingQuorumsSuffice, MomentsAreOrdered, ChangesAreLocal}
 use Rattle.rq_history.proofs.Claims.{Whole}
 use Rattle.rq_history.proofs.Logs.{same_less, term_same, front_fits}
 use Rattle.rq_history.proofs.Quorums.{one_more, one_less}
@@ -19,6 +19,9 @@ use Rattle.rq_history.proofs.Backed as Backed
 use Rattle.rq_history.proofs.Chosen as Chosen
 use Rattle.rq_history.proofs.Sounds as Sounds
 use Rattle.rq_history.proofs.Changing as Changing
+use Rattle.rq_history.proofs.Configs as Configs
+use Rattle.std.specs.Prelude.{Option, Some, None, List, ◌∷◌, ◌++◌, []}
+use Rattle.rq_history.specs.Configurations.{is_given, voters_or}
 use Rattle.rq_history.proofs.Passes as Passes
 
 pub neighbours_meet : NeighboursMeet
@@ -100,6 +103,13 @@ module _ {E : Type 0} (view : EntryView E) where
 
   pub chosen_holds : ChosenHolds view
   chosen_holds first h l = Chosen.in_chosen view (newest_voters view first) h (Changing.whole view first h l)
+
+  pub configurations_count_from_append : ConfigurationsCountFromAppend view
+  configurations_count_from_append first log e = go (view.voters_of e) refl
+    where
+      go : (o : Option (List NodeId)) → view.voters_of e ≡ o → newest_voters view first (log ++ e ∷ []) ≡ voters_or (newest_voters view first log) (view.voters_of e)
+      go None is = Configs.voters_stay view first log e (ap is_given is) ∙ sym (ap (voters_or (newest_voters view first log)) is)
+      go (Some vs) is = Configs.voters_pushed view first log e (ap is_given is) ∙ ap (voters_or first) is ∙ sym (ap (voters_or (newest_voters view first log)) is)
 
   pub meeting_quorums_suffice : MeetingQuorumsSuffice view
   meeting_quorums_suffice voters meet h l = let w = Sounds.whole view voters h meet l in (w.0.1, w.1)

@@ -1,6 +1,6 @@
 -- A node votes once in a term.
 use Rattle.std.proofs.Common.{◌≡◌, ◌⊎◌, ℕ, ◌≤◌, List, Some, refl, sym, inl, inr, arith}
-use Rattle.rq_history.specs.History.{NodeId, EntryView, Node, History, After, Was, now, Follower, Leader, Led, WasBefore}
+use Rattle.rq_history.specs.History.{NodeId, EntryView, Node, History, After, Was, now, Leader, Led, WasBefore}
 use Rattle.rq_history.specs.Moves.{Move, Lawful, Rise, Fall, Stand, Grant, Lead, Extend, Accept, Learn, Commit, Voted}
 use Rattle.rq_history.specs.Quorum.{Quorum, HaveCommon}
 use Rattle.rq_history.proofs.Quorums.{quorums_meet}
@@ -36,29 +36,6 @@ module _ {E : Type 0} (view : EntryView E) where
         (λ h k y i z x o. o)
         (λ h i y l m. record { term = omega arith; vote = λ c e v. v })
         (λ h i y z l m w o. older_trans z (now h i) y o (move_older h i (now h i) y m))
-
-    -- who is no follower has voted for itself
-    abbrev ForItself : NodeId → Node E → Type 0
-    ForItself i x = (x.role ≡ Follower) ⊎ (x.vote ≡ Some i)
-
-    move_for_itself : (h : History E) (i : NodeId) (x y : Node E) → Move view voters h i x y → ForItself i x → ForItself i y
-    move_for_itself h i x y (Rise up a b c d) f = inl b
-    move_for_itself h i x y (Fall a b c d e) f = inl c
-    move_for_itself h i x y (Stand a b c d e) f = inr b
-    move_for_itself h i x y (Grant c z a b d e none g j k l m) (inl f) = inl (cc)
-    move_for_itself h i x y (Grant c z a b d e none g j k l m) (inr f) = absurd (cc)
-    move_for_itself h i x y (Lead a b c d e f g) (inl q) = absurd (cc)
-    move_for_itself h i x y (Lead a b c d e f g) (inr q) = inr (cc)
-    move_for_itself h i x y (Extend s a b c d e f g change) (inl q) = absurd (cc)
-    move_for_itself h i x y (Extend s a b c d e f g change) (inr q) = inr (cc)
-    move_for_itself h i x y (Accept j z n a b c d e f g k l) q = inl g
-    move_for_itself h i x y (Learn j z a b c d e f g k l) q = inl k
-    move_for_itself h i x y (Commit a b c d e f g k l) (inl q) = absurd (cc)
-    move_for_itself h i x y (Commit a b c d e f g k l) (inr q) = inr (cc)
-
-    pub for_itself : (h : History E) → Lawful view voters h → (i : NodeId) (x : Node E) → Was h i x → ForItself i x
-    for_itself = each view voters (Lawful view voters) (law_past view voters) (law_move view voters) (λ h i x. ForItself i x) (λ i. inl refl) (λ h k y i x l w f. f)
-        (λ h i y l ih m. move_for_itself h i (now h i) y m (ih i (now h i) (was_now h i)))
 
     pub older2 : (h : History E) → Lawful view voters h → (i : NodeId) (a b : Node E) → WasBefore h i a b → IsOlder a b
     older2 = since2 view voters (Lawful view voters) (law_past view voters) (law_move view voters) (λ h i z x. IsOlder z x)

@@ -33,9 +33,12 @@ voters_or first (Some voters) = voters
 abbrev pub newest_voters : {E : Type 0} → EntryView E → List NodeId → List E → List NodeId
 newest_voters view first log = voters_or first (voters_in view (entry_at log (configuration_index view log)))
 
--- when a leader may append a configuration: an entry of its own term is committed, its newest configuration is committed, and quorums of the new one meet those of the newest
+-- when a leader may append a configuration (the first condition is Ongaro's correction, "bug in single-server membership changes", raft-dev list, 2015)
 pub record MayChange {E : Type 0} (view : EntryView E) (voters : List E → List NodeId) (x : Node E) (e : E) : Type 0 where
+  -- it has committed an entry of its own term
   pub some : 0 < x.commit
   pub own : term_at view x.log x.commit ≡ x.term
+  -- its newest configuration is committed
   pub settled : configuration_index view x.log ≤ x.commit
+  -- a quorum of the newest one's voters and a quorum of the new one's have a voter in common
   pub near : HaveCommon (voters x.log) (voters (x.log ++ e ∷ []))

@@ -1,8 +1,8 @@
 -- The laws of a history, to be held against Figure 3 of the extended Raft paper: whatever the nodes did, move by move, this holds of it.
-use Rattle.std.specs.Prelude.{ℕ, ◌<◌, ◌≤◌, ◌≡◌, ◌≢◌, ◌⊎◌, Some, List, ◌∷◌, ◌++◌, length, take}
+use Rattle.std.specs.Prelude.{ℕ, ◌<◌, ◌≤◌, ◌≡◌, ◌≢◌, ◌⊎◌, Some, List, [], ◌∷◌, ◌++◌, length, take}
 use Rattle.rq_history.specs.History.{NodeId, EntryView, Candidate, Leader, Node, History, After, now, Was, WasBefore, IsEarlier, Led, term_at, IsFront, Origin}
 use Rattle.rq_history.specs.Quorum.{Quorum, HaveCommon}
-use Rattle.rq_history.specs.Configurations.{newest_voters}
+use Rattle.rq_history.specs.Configurations.{voters_or, newest_voters}
 use Rattle.rq_history.specs.Moves.{Voted, Lawful}
 use Rattle.rq_history.specs.Votes.{Cast, Election}
 use Rattle.rq_history.specs.Commits.{DirectCommit, Backed, chosen}
@@ -131,6 +131,11 @@ LaterEntriesCover {E = E} view = (first : List NodeId) (early late : History E) 
 abbrev pub NeighboursMeet : Type 0
 NeighboursMeet = (before after : List NodeId) (v : NodeId) → HaveCommon (before ++ after) (before ++ v ∷ after) × HaveCommon (before ++ v ∷ after) (before ++ after)
 
+-- a configuration counts from its append on, and no other entry changes the voters
+abbrev pub ConfigurationsCountFromAppend : {E : Type 0} → EntryView E → Type 0
+ConfigurationsCountFromAppend {E = E} view = (first : List NodeId) (log : List E) (e : E)
+    → newest_voters view first (log ++ e ∷ []) ≡ voters_or (newest_voters view first log) (view.voters_of e)
+
 -- of the configurations no more is used than that quorums meet: where any two do, whatever the log tells of its voters, there is one leader a term, and leaders are complete
 abbrev pub MeetingQuorumsSuffice : {E : Type 0} → EntryView E → Type 0
 MeetingQuorumsSuffice {E = E} view = (voters : List E → List NodeId) → ((a b : List E) → HaveCommon (voters a) (voters b)) → (h : History E) → Lawful view voters h
@@ -139,7 +144,10 @@ MeetingQuorumsSuffice {E = E} view = (voters : List E → List NodeId) → ((a b
 
 -- what a node is now it was at a moment, and of two moments of a node one is not after the other
 abbrev pub MomentsAreOrdered : (E : Type 0) → Type 0
-MomentsAreOrdered E = (h : History E) (i : NodeId) → Was h i (now h i) × ((a b : Node E) → Was h i a → Was h i b → WasBefore h i a b ⊎ WasBefore h i b a) × ((a : Node E) → Was h i a → WasBefore h i a (now h i))
+MomentsAreOrdered E = (h : History E) (i : NodeId)
+    → Was h i (now h i)
+    × ((a b : Node E) → Was h i a → Was h i b → WasBefore h i a b ⊎ WasBefore h i b a)
+    × ((a : Node E) → Was h i a → WasBefore h i a (now h i))
 
 -- a change changes one node
 abbrev pub ChangesAreLocal : (E : Type 0) → Type 0

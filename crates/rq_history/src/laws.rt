@@ -25,6 +25,7 @@ ghost use Rattle.rq_history.specs.Laws.{
   LeadersCover,
   LaterEntriesCover,
   NeighboursMeet,
+  ConfigurationsCountFromAppend,
   MeetingQuorumsSuffice,
   MomentsAreOrdered,
   ChangesAreLocal,
@@ -138,6 +139,11 @@ pub fn later_entries_cover<E>()
 /// Quorums of two configurations that differ by one voter have a voter in common.
 pub fn neighbours_meet()
     ensures { NeighboursMeet }
+{}
+
+/// A configuration counts from its append on, committed or not, and no other entry changes the voters.
+pub fn configurations_count_from_append<E>()
+    ensures { (view : EntryView E) → ConfigurationsCountFromAppend view }
 {}
 
 /// Where any two quorums meet there is one leader a term, and leaders are complete.
