@@ -105,7 +105,7 @@ ChosenHolds {E = E} view = (first : List NodeId) (h : History E) → IsRun view 
 abbrev pub ChosenWasCommitted : (E : Type 0) → Type 0
 ChosenWasCommitted E = (h : History E) → (i : NodeId) × (x : Node E) × Was h i x × (chosen h ≡ take x.commit x.log)
 
--- none of a quorum of i's voters had, up to the earlier moment, seen a term above this one: so answers of this term tell that were made after that moment (dissertation, section 6.4)
+-- a quorum of i's voters had, up to the earlier moment, seen no term above this one; an answer of this term that is made after that moment tells it of its sender (dissertation, section 6.4)
 abbrev pub IsConfirmed : {E : Type 0} → EntryView E → List NodeId → History E → History E → NodeId → ℕ → Type 0
 IsConfirmed {E = E} view first early late i term = Quorum (newest_voters view first (now late i).log) (λ v. (z : Node E) → Was early v z → z.term ≤ term)
 
@@ -113,14 +113,15 @@ IsConfirmed {E = E} view first early late i term = Quorum (newest_voters view fi
 abbrev pub LeadsOn : {E : Type 0} → History E → History E → NodeId → ℕ → Type 0
 LeadsOn early late i term = ((now early i).role ≡ Leader) × ((now early i).term ≡ term) × ((now late i).role ≡ Leader) × ((now late i).term ≡ term)
 
--- Reads: where a quorum confirms a leader after a moment, no node had committed up to that moment more than this leader had, or as much as an index from which its log has entries of its own term alone
+-- Reads: where a quorum confirms a leader after a moment, each commit index that any node had up to that moment was at most this leader's own then,
+-- or below `from`, an index at which the leader's log has an entry of its own term, or ends before
 abbrev pub LeadersCover : {E : Type 0} → EntryView E → Type 0
 LeadersCover {E = E} view = (first : List NodeId) (early late : History E) → IsRun view first early → IsRun view first late → IsEarlier early late
     → (i : NodeId) (term : ℕ) → LeadsOn early late i term → IsConfirmed view first early late i term
     → (from : ℕ) → 0 < from → (from ≤ length (now early i).log → term_at view (now early i).log from ≡ term)
     → (j : NodeId) (x : Node E) → Was early j x → (x.commit < from) ⊎ (x.commit ≤ (now early i).commit)
 
--- Reads through the log: an entry of its term behind all that a leader had at a moment is, once committed, behind all that any node had committed up to that moment
+-- Reads through the log: an entry of a leader's term that stands behind its whole log at a moment is, once any node has committed it, behind all that was committed up to that moment
 abbrev pub LaterEntriesCover : {E : Type 0} → EntryView E → Type 0
 LaterEntriesCover {E = E} view = (first : List NodeId) (early late : History E) → IsRun view first early → IsRun view first late → IsEarlier early late
     → (i : NodeId) (term : ℕ) → (now early i).role ≡ Leader → (now early i).term ≡ term
