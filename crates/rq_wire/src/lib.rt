@@ -1,0 +1,19 @@
+//! Log entries and configurations: their types and their bytes, as docs/FORMATS.md, "Bytes", has them.
+#![tactic(auto)]
+
+mod config;
+mod decoding;
+mod encoding;
+mod entry;
+mod error;
+mod laws;
+
+pub use config::{Config, Member, quorum};
+pub use decoding::{TEXT_LIMIT, decode_entry, decode_whole};
+pub use encoding::{encode_config, encode_entry};
+pub use entry::{Body, Entry};
+pub use error::{WireError, wire_error};
+pub use laws::entries_are_read_as_spelled;
+
+#[cfg(test)]
+mod tests;
