@@ -1,0 +1,3 @@
+mod Overwrites
+mod Picks
+mod Replays

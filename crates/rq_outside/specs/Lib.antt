@@ -1,0 +1,9 @@
+pub mod Counts
+pub mod Disk
+pub mod MemDisk
+pub mod MemStreams
+pub mod Memory
+pub mod Pair
+pub mod Playing
+pub mod Replay
+pub mod Scripts

@@ -1,0 +1,29 @@
+//! The outside as traits: where bytes come from and go, disks with what a crash may leave, clocks, random words. Each
+//! trait has a count of faults, and tells its content where it can. The fakes in memory stand for the outside in tests.
+#![tactic(auto)]
+
+mod clock;
+mod disk;
+mod draws;
+mod error;
+mod fakes;
+mod pair;
+mod sink;
+mod source;
+mod word;
+
+pub use clock::Clock;
+pub use disk::{CrashDisk, Disk};
+pub use draws::Draws;
+pub use error::Failed;
+pub use fakes::{
+    MemDisk, MemSink, MemSource, ScriptClock, ScriptDraws, SureClock, SureDisk, SureDraws,
+    SureSink, SureSource,
+};
+pub use pair::{Arm, DiskPair, FileNo};
+pub use sink::{Sink, SinkError};
+pub use source::Source;
+pub use word::Word;
+
+#[cfg(test)]
+mod tests;
