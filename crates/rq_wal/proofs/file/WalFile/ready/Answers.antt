@@ -1,0 +1,17 @@
+use Rattle.std.proofs.Common.{All, List, ℕ, sym, subst}
+use Rattle.rq_wal.specs.Gate.{IsPiece}
+use Rattle.rq_outside.specs.Pair.{disk_at}
+use Rattle.rq_wal.proofs.AtRest.{stays_at_rest}
+use Rattle.rq_wal.proofs.Framed.{all_pieces}
+use Rattle.rq_wal.proofs.file.WalFile.ready.Goals as goal
+
+pub invariant_of-result : goal.invariant_of-result
+invariant_of-result g c = subst (λ (ps : List (List ℕ)). All IsPiece ps) (sym c.in_ok-pieces.ensures) (all_pieces c.args.frames.now)
+
+pub returns-in_err-ready-clause-at_rest : goal.returns-in_err-ready-clause-at_rest
+returns-in_err-ready-clause-at_rest g c told rest =
+    stays_at_rest (g.D.Disk.means (disk_at c.args.disks.now c.args.self.now.file)) (g.D.Disk.means (disk_at c.ready.new.self c.args.self.now.file)) c.args.self.now.end (c.ready.ensures.same told) rest
+
+pub returns-clause-at_rest : goal.returns-clause-at_rest
+returns-clause-at_rest g c told rest =
+    stays_at_rest (g.D.Disk.means (disk_at c.args.disks.now c.args.self.now.file)) (g.D.Disk.means (disk_at c.ready.new.self c.args.self.now.file)) c.args.self.now.end (c.ready.ensures.same told) rest

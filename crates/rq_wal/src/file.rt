@@ -1,0 +1,137 @@
+//! The current file of a pair, and the frames that are to be added to it.
+ghost use Rattle.std.specs.Prelude.{◌≡◌, ◌≤◌, ◌<◌, ◌+◌, ◌*◌, ◌^◌, ◌++◌, List, ℕ, length, take, map, IsTrue, IfOk, OnOk, OnErr};
+ghost use Rattle.std.specs.List.{flat_map};
+ghost use Rattle.rq_outside.specs.Disk.{LeavesOnly, HasRoom, Uses, Stays, Elapses};
+ghost use Rattle.rq_outside.specs.Pair.{other, disk_at, arm_of, own_faults, UsedCalls, PairCause};
+ghost use Rattle.rq_wal.specs.declared.frame.Frame.{Frame};
+ghost use Rattle.rq_wal.specs.Gate.{IsAtRest, HasSomeOf};
+ghost use Rattle.rq_wal.specs.Pieces.{bytes_of};
+ghost use Rattle.rq_wal.specs.Spelling.{piece_of, gated};
+
+use crate::frame::Frame;
+use crate::framing::write_frames;
+use crate::spelling::pieces;
+use rq_outside::{Disk, DiskPair, Failed, FileNo};
+use rq_values::{Bytes, NoMemory};
+use std::alloc::Global;
+use std::marker::Model;
+
+/// The current file of a pair. After a failed write it is gone, and the pair is to be opened again.
+#[derive(Debug, Drop)]
+pub struct WalFile {
+    pub(crate) file: FileNo,
+    pub(crate) generation: u64,
+    pub(crate) end: u64,
+}
+
+/// Frames that are ready to be written. A contract sees the bytes of each, with a closed gate behind them.
+#[derive(Debug, Drop)]
+pub struct Batch {
+    pieces: Vec<Bytes>,
+}
+
+impl Model for Batch {
+    ghost use Rattle.std.specs.Prelude.{List, ℕ, All};
+    ghost use Rattle.rq_wal.specs.Gate.{IsPiece};
+
+    ghost Value = { List (List ℕ) };
+
+    ghost view = { λ batch. batch.pieces.items };
+
+    ghost invariant = { λ batch. All IsPiece batch.pieces.items };
+}
+
+/// How many bytes the pieces have together.
+fn total(pieces: &[Bytes]) -> Result<u64, NoMemory>
+    ensures { IfOk result (λ total. total ≡ bytes_of pieces.now) }
+{
+    let mut total: u64 = 0;
+    for piece in pieces {
+        let Some(more) = total.checked_add(piece.bytes().len() as u64) else {
+            return Err(NoMemory);
+        };
+        total = more;
+    }
+    Ok(total)
+}
+
+/// How much room so many pieces of so many bytes take: bytes and changing calls. None is made where a file of this
+/// length would grow to 2^63 bytes or more.
+fn room(end: u64, bytes: u64, count: usize) -> Result<(u64, u32), NoMemory>
+    ensures bytes { IfOk result (λ room. room.0 ≡ bytes + count) }
+    ensures calls { IfOk result (λ room. room.1 ≡ 4 * count) }
+    ensures fits { OnOk result (end + bytes < 2 ^ 63) }
+{
+    if end >= 1 << 63 || bytes >= (1 << 63) - end || count >= 1 << 30 {
+        return Err(NoMemory);
+    }
+    Ok((bytes + count as u64, 4 * count as u32))
+}
+
+impl WalFile {
+    ghost use Rattle.rq_wal.specs.WalFile.{wal_file, wal_end, wal_generation};
+
+    /// The place of the last gate.
+    pub fn end(&self) -> u64
+        ensures { result ≡ wal_end self.now }
+    {
+        self.end
+    }
+
+    /// How often a base was written to the pair.
+    pub fn generation(&self) -> u64
+        ensures { result ≡ wal_generation self.now }
+    {
+        self.generation
+    }
+
+    /// Takes all the memory that writing these frames wants. None is given where a payload has 2^32 bytes or more, or
+    /// where the file would grow to 2^63 bytes.
+    pub fn ready<D: Disk>(
+        &mut self,
+        alloc: Global,
+        disks: &mut DiskPair<D>,
+        frames: &[Frame],
+    ) -> Result<Batch, NoMemory>
+        ensures file { self.new ≡ self.old }
+        ensures batch { IfOk result (λ batch. batch ≡ map piece_of frames.now) }
+        ensures fits { IfOk result (λ batch. wal_end self.new + bytes_of batch < 2 ^ 63) }
+        ensures room { IfOk result (λ batch. HasRoom (D.means (disk_at disks.new (wal_file self.new))) (bytes_of batch + length batch) (4 * length batch)) }
+        ensures other { disk_at disks.new (other (wal_file self.old)) ≡ disk_at disks.old (other (wal_file self.old)) }
+        ensures same { IsTrue D.told → Stays (D.means (disk_at disks.old (wal_file self.old))) (D.means (disk_at disks.new (wal_file self.old))) }
+        ensures at_rest { IsTrue D.told → IsAtRest (D.means (disk_at disks.old (wal_file self.old))) (wal_end self.old) → IsAtRest (D.means (disk_at disks.new (wal_file self.new))) (wal_end self.new) }
+        ensures time { IsTrue D.told → OnOk result (Elapses (D.means (disk_at disks.old (wal_file self.old))) (D.means (disk_at disks.new (wal_file self.old)))) }
+        ensures faults { (D.means (disk_at disks.new (wal_file self.old))).faults ≡ (D.means (disk_at disks.old (wal_file self.old))).faults }
+        ensures arm { arm_of disks.new ≡ arm_of disks.old }
+        ensures own { own_faults disks.new ≡ own_faults disks.old }
+    {
+        let pieces = pieces(alloc, frames)?;
+        let (bytes, calls) = room(self.end, total(&pieces)?, pieces.len())?;
+        disks.ready(self.file, bytes, calls)?;
+        Ok(Batch { pieces })
+    }
+
+    /// Adds the frames in order, by four changing calls each and without memory: the frame and a closed gate behind it; a
+    /// sync; the gate before it is opened; a sync. A stop at any moment leaves the first of the frames, each whole.
+    pub fn write<D: Disk>(self, disks: &mut DiskPair<D>, batch: Batch) -> Result<WalFile, Failed>
+        requires at_rest { IsTrue D.told → IsAtRest (D.means (disk_at disks.old (wal_file self))) (wal_end self) }
+        requires fits { wal_end self + bytes_of batch < 2 ^ 63 }
+        requires room { HasRoom (D.means (disk_at disks.old (wal_file self))) (bytes_of batch + length batch) (4 * length batch) }
+        ensures file { IfOk result (λ wal. wal_file wal ≡ wal_file self) }
+        ensures generation { IfOk result (λ wal. wal_generation wal ≡ wal_generation self) }
+        ensures end { IfOk result (λ wal. wal_end wal ≡ wal_end self + bytes_of batch) }
+        ensures other { disk_at disks.new (other (wal_file self)) ≡ disk_at disks.old (other (wal_file self)) }
+        ensures at_rest { IfOk result (λ wal. IsTrue D.told → IsAtRest (D.means (disk_at disks.new (wal_file wal))) (wal_end wal)) }
+        ensures written { IsTrue D.told → (frames : List Frame) → batch ≡ map piece_of frames → IfOk result (λ wal. take (wal_end wal) (D.means (disk_at disks.new (wal_file self))).content ≡ take (wal_end self) (D.means (disk_at disks.old (wal_file self))).content ++ flat_map gated frames) }
+        ensures any_moment { IsTrue D.told → (frames : List Frame) → batch ≡ map piece_of frames → LeavesOnly (D.means (disk_at disks.old (wal_file self))) (D.means (disk_at disks.new (wal_file self))) (HasSomeOf (take (wal_end self) (D.means (disk_at disks.old (wal_file self))).content) frames) }
+        ensures cause { PairCause D.means disks.old disks.new result }
+        ensures calls { OnOk result (UsedCalls (4 * length batch) (arm_of disks.old) (arm_of disks.new)) }
+    {
+        let end = write_frames(disks, self.file, self.end, &batch.pieces)?;
+        Ok(WalFile {
+            file: self.file,
+            generation: self.generation,
+            end,
+        })
+    }
+}

@@ -1,0 +1,23 @@
+//! A log file pair: a base, and frames behind gates, written so that a stop at any moment leaves the first of them, each
+//! whole. docs/FORMATS.md, "The file pair", has the bytes.
+#![tactic(auto)]
+
+mod appending;
+mod base;
+mod error;
+mod file;
+mod frame;
+mod framing;
+mod opening;
+mod replacing;
+mod spelling;
+mod synced;
+
+pub use base::{Base, Stored};
+pub use error::OpenError;
+pub use file::{Batch, WalFile};
+pub use frame::Frame;
+pub use opening::open;
+
+#[cfg(test)]
+mod tests;
