@@ -1,0 +1,121 @@
+-- The machine within limits: each state has a weight, the least depth of a statement that goes on from it, and a due, the `(` that must still come.
+use Rattle.std.specs.Prelude.{ℕ, suc, ◌+◌, max, nat_le, ◌&&◌, if◌then◌else◌, [], ◌∷◌, Option, Some, None, Result, Ok, Err}
+use Rattle.rq_grammar.specs.declared.stmt.Stmt.{Stmt}
+use Rattle.rq_grammar.specs.declared.place.Query.{Query}
+use Rattle.rq_grammar.specs.declared.place.Stage.{Stage}
+use Rattle.rq_grammar.specs.declared.place.Stage.TheVariants as stage
+use Rattle.rq_grammar.specs.declared.place.Place.{Place}
+use Rattle.rq_grammar.specs.declared.place.Place.TheVariants as p
+use Rattle.rq_grammar.specs.declared.frame.Clause.{Clause}
+use Rattle.rq_grammar.specs.declared.frame.Clause.TheVariants as c
+use Rattle.rq_grammar.specs.declared.frame.Frame.TheVariants as f
+use Rattle.rq_grammar.specs.declared.frame.State.{State}
+use Rattle.rq_grammar.specs.declared.frame.State.TheVariants as s
+use Rattle.rq_grammar.specs.Words.{Tokens}
+use Rattle.rq_grammar.specs.Stack.{Stack}
+use Rattle.rq_grammar.specs.Machine.{step, finish}
+use Rattle.rq_grammar.specs.Depth.{depth, depths, rows_depth, maybe_depth, results_depth, order_depth, sets_depth, select_depth, deepest, open_behind, Limits, Stop, NoStatement, TooDeep}
+
+-- the depth of the parts of a select that are read
+abbrev pub stage_depth : Stage → Query → ℕ
+stage_depth stage.Results q = results_depth q.select.results
+stage_depth stage.Source q = results_depth q.select.results
+stage_depth stage.Filtered q = max (results_depth q.select.results) (maybe_depth q.select.filter)
+stage_depth stage.Ordered q = max (results_depth q.select.results) (max (maybe_depth q.select.filter) (order_depth q.select.order))
+stage_depth stage.Limited q = select_depth q.select
+
+-- the least depth of a statement in whose clause an operand of depth d stands
+abbrev pub clause_least : Clause → ℕ → ℕ
+clause_least (c.Row i rs xs) d = max (rows_depth rs) (max (depths xs) d)
+clause_least (c.Results q) d = max (stage_depth stage.Results q) d
+clause_least (c.Filter q) d = max (stage_depth stage.Results q) d
+clause_least (c.Order q) d = max (stage_depth stage.Ordered q) d
+clause_least (c.Limit q) d = max (stage_depth stage.Ordered q) d
+clause_least (c.Offset q) d = max (stage_depth stage.Ordered q) (max (maybe_depth q.select.limit) d)
+clause_least (c.Set n is m) d = max (sets_depth is) d
+clause_least (c.UpdateFilter n is) d = max (sets_depth is) d
+clause_least (c.DeleteFilter n) d = d
+
+-- the least depth of a statement in which an operand of depth d stands on the stack
+abbrev pub least : Stack → ℕ → ℕ
+least [] d = d
+least (f.Binary o a ∷ st) d = least st (suc (max (depth a) d))
+least (f.Not ∷ st) d = least st (suc d)
+least (f.Plus ∷ st) d = least st d
+least (f.Minus ∷ st) d = least st (suc d)
+least (f.Low b a ∷ st) d = least st (suc (max (depth a) (max d 1)))
+least (f.High b a a' ∷ st) d = least st (suc (max (depth a) (max (depth a') d)))
+least (f.Paren ∷ st) d = least st d
+least (f.Args n xs ∷ st) d = least st (suc (max 1 (max (depths xs) d)))
+least (f.Among b a xs ∷ st) d = least st (suc (max (depth a) (max (depths xs) d)))
+least (f.Clause k ∷ st) d = clause_least k d
+
+abbrev pub place_weight : Place → ℕ
+place_weight (p.Values i rs) = max 1 (rows_depth rs)
+place_weight (p.Rows i rs) = rows_depth rs
+place_weight p.Update = 1
+place_weight (p.UpdateTable n) = 1
+place_weight (p.SetStart n is) = max 1 (sets_depth is)
+place_weight (p.SetName n is m) = max 1 (sets_depth is)
+place_weight (p.Sets n is) = sets_depth is
+place_weight (p.Result q) = stage_depth stage.Results q
+place_weight (p.Alias q a) = max (stage_depth stage.Results q) (depth a)
+place_weight (p.Tail g q) = stage_depth g q
+place_weight (p.From q) = stage_depth stage.Results q
+place_weight (p.Order q) = max 1 (stage_depth stage.Filtered q)
+place_weight (p.Ended r) = deepest r
+place_weight _ = 0
+
+-- `COUNT (` may become a node without arguments
+abbrev pub weight : State → ℕ
+weight (s.Flat z) = place_weight z
+weight (s.Operand st) = least st 1
+weight (s.Signed st) = least st 1
+weight (s.Quoted st n) = least st 1
+weight (s.Named st b n) = least st 1
+weight (s.Dotted st n) = least st 1
+weight (s.Opened st b n) = least st (if b then 1 else 2)
+weight (s.Counted st) = least st 1
+weight (s.Done st m a) = least st (depth a)
+weight (s.Denied st a) = least st (suc (depth a))
+weight (s.Is st a) = least st (suc (max (depth a) 1))
+weight (s.In st b a) = least st (suc (depth a))
+weight (s.Listed st b a) = least st (suc (depth a))
+
+abbrev pub place_due : Place → ℕ
+place_due p.Create = 1
+place_due p.CreateTable = 1
+place_due (p.CreateIf n) = 1
+place_due p.CreateIfNot = 1
+place_due p.CreateIfNotExists = 1
+place_due (p.CreateNamed b n) = 1
+place_due (p.Values i rs) = 1
+place_due _ = 0
+
+-- how many `(` must still come
+abbrev pub due : State → ℕ
+due (s.Flat z) = place_due z
+due (s.In st b a) = 1
+due _ = 0
+
+-- the state, if n open parentheses and it are within the limits
+abbrev pub limited : Limits → ℕ → Option State → Result State Stop
+limited l n None = Err NoStatement
+limited l n (Some q) = if nat_le (weight q) l.depth && nat_le (n + due q) l.parens then Ok q else Err TooDeep
+
+abbrev pub one_later : Result Stmt (Stop × ℕ) → Result Stmt (Stop × ℕ)
+one_later (Ok r) = Ok r
+one_later (Err w) = Err (w.0, suc w.1)
+
+abbrev pub going : Result State Stop → (State → Result Stmt (Stop × ℕ)) → Result Stmt (Stop × ℕ)
+going (Ok q) next = one_later (next q)
+going (Err stop) next = Err (stop, 0)
+
+abbrev pub or_nothing : Option Stmt → Result Stmt (Stop × ℕ)
+or_nothing (Some r) = Ok r
+or_nothing None = Err (NoStatement, 0)
+
+-- the statement, or why and how many tokens behind reading stops; n parentheses are open
+unfoldable pub parse_within : Limits → ℕ → State → Tokens → Result Stmt (Stop × ℕ)
+parse_within l n q [] = or_nothing (finish q)
+parse_within l n q (u ∷ us) = going (limited l (open_behind n u) (step q u)) (λ next. parse_within l (open_behind n u) next us)
