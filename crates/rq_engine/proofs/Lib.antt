@@ -1,0 +1,4 @@
+pub mod Appending
+pub mod SizeLemmas
+pub mod Statements
+pub mod Texts
