@@ -1,0 +1,2 @@
+pub mod JsonBodies
+pub mod ReplyMembers
