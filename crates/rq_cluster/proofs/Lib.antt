@@ -1,0 +1,10 @@
+mod Addresses
+mod Cutting
+mod FileSteps
+mod Finishing
+mod Lists
+mod NodeSteps
+mod Pending
+mod Pieces
+mod Whole
+mod WorldLaws

@@ -1,0 +1,16 @@
+pub mod CommandWords
+pub mod Feed
+pub mod Files
+pub mod Hosted
+pub mod LastLines
+pub mod Lines
+pub mod Node
+pub mod Play
+pub mod ReadLine
+pub mod Rules
+pub mod Runs
+pub mod ScriptLine
+pub mod ScriptText
+pub mod Server
+pub mod Sound
+pub mod World

@@ -1,0 +1,255 @@
+ghost use Rattle.std.specs.Prelude.{◌≡◌, length, IfOk};
+
+use super::*;
+use rq_outside::{DiskPair, MemSink, MemSource, SureDisk, SureDraws, Word};
+use std::alloc::Global;
+use std::test::Fail;
+
+const UP: &[u8] = b"up n1 boot 1 term 0 last 0\n";
+
+/// A call, the numbers of the reads and writes that fail in it, and what it must answer and write.
+#[derive(Clone, Copy)]
+struct Case<'a> {
+    words: &'a [&'a [u8]],
+    script: &'a [u8],
+    reads: &'a [u64],
+    writes: &'a [u64],
+    status: u8,
+    text: &'a [u8],
+}
+
+fn new_pair(alloc: Global) -> Result<DiskPair<SureDisk>, Fail> {
+    let one = SureDisk::new(alloc, Vec::new(alloc)).ok().ok_or("memory")?;
+    let two = SureDisk::new(alloc, Vec::new(alloc)).ok().ok_or("memory")?;
+    Ok(DiskPair::new(one, two))
+}
+
+fn new_pairs(alloc: Global) -> Result<Vec<DiskPair<SureDisk>>, Fail>
+    ensures { IfOk result (λ pairs. length pairs.items ≡ 9) }
+{
+    let pairs = [
+        new_pair(alloc)?,
+        new_pair(alloc)?,
+        new_pair(alloc)?,
+        new_pair(alloc)?,
+        new_pair(alloc)?,
+        new_pair(alloc)?,
+        new_pair(alloc)?,
+        new_pair(alloc)?,
+        new_pair(alloc)?,
+    ];
+    match Vec::from_array(alloc, pairs) {
+        Ok(pairs) => Ok(pairs),
+        Err(_) => Err("memory".into()),
+    }
+}
+
+// Whether the call answers and writes what it must.
+fn is_right(alloc: Global, case: &Case) -> Result<bool, Fail> {
+    let mut words = Vec::new(alloc);
+    for word in case.words {
+        words
+            .push(Word::new(alloc, word).ok().ok_or("memory")?)
+            .ok()
+            .ok_or("memory")?;
+    }
+    let mut source = MemSource::new(case.script.to_vec(alloc)?, case.reads.to_vec(alloc)?);
+    let mut sink = MemSink::new(Vec::new(alloc), case.writes.to_vec(alloc)?);
+    let mut disks = new_pairs(alloc)?;
+    let mut draws = SureDraws::new(Vec::new(alloc));
+    let status = cluster_main(
+        alloc,
+        &words,
+        &mut source,
+        &mut sink,
+        &mut disks,
+        &mut draws,
+    );
+    Ok(status == case.status && sink.bytes() == case.text)
+}
+
+// The place of the first case that isn't as it must be.
+fn first_wrong_case(alloc: Global, cases: &[Case]) -> Result<Option<usize>, Fail> {
+    for (place, case) in cases.iter().enumerate() {
+        if !is_right(alloc, case)? {
+            return Ok(Some(place));
+        }
+    }
+    Ok(None)
+}
+
+fn plain<'a>(words: &'a [&'a [u8]], script: &'a [u8], status: u8, text: &'a [u8]) -> Case<'a> {
+    Case {
+        words,
+        script,
+        reads: &[],
+        writes: &[],
+        status,
+        text,
+    }
+}
+
+fn faulty<'a>(
+    script: &'a [u8],
+    reads: &'a [u64],
+    writes: &'a [u64],
+    status: u8,
+    text: &'a [u8],
+) -> Case<'a> {
+    Case {
+        words: &[b"cluster"],
+        script,
+        reads,
+        writes,
+        status,
+        text,
+    }
+}
+
+#[test]
+fn words_and_lines(rt: HostRuntime) -> Result<(), Fail> {
+    let cases = [
+        plain(&[b"cluster"], b"cluster n1\n", 0, UP),
+        plain(
+            &[b"clutser"],
+            b"cluster n1\n",
+            2,
+            b"stopped: word 1: clutser\n",
+        ),
+        plain(&[], b"cluster n1\n", 2, b"stopped: word 1: \n"),
+        plain(
+            &[b"cluster", b"x"],
+            b"cluster n1\n",
+            2,
+            b"stopped: word 2: x\n",
+        ),
+        plain(
+            &[b"cluster", b""],
+            b"cluster n1\n",
+            2,
+            b"stopped: word 2: \n",
+        ),
+        plain(
+            &[b"\xff\xfe"],
+            b"cluster n1\n",
+            2,
+            b"stopped: word 1: \xff\xfe\n",
+        ),
+        Case {
+            words: &[b"clutser"],
+            script: b"",
+            reads: &[1],
+            writes: &[1],
+            status: 5,
+            text: b"",
+        },
+        plain(&[b"cluster"], b"", 3, b"stopped: line 1\n"),
+        plain(&[b"cluster"], b"\n# x", 3, b"stopped: line 3\n"),
+        plain(&[b"cluster"], b"cluster n1", 0, UP),
+        plain(&[b"cluster"], b"# x\r\n\r\n\ncluster n1\r\n# y", 0, UP),
+        plain(
+            &[b"cluster"],
+            b"cluster n1\n\nbeat\n# x\n",
+            3,
+            b"up n1 boot 1 term 0 last 0\nstopped: line 3\n",
+        ),
+        plain(&[b"cluster"], b"cluster n1\r", 3, b"stopped: line 1\n"),
+    ];
+    assert_eq!(rt; first_wrong_case(rt.alloc(), &cases)?, None);
+    Ok(())
+}
+
+#[test]
+fn faults(rt: HostRuntime) -> Result<(), Fail> {
+    let alloc = rt.alloc();
+    // The second read begins in the third line, in the first.
+    let mut late = b"cluster n1\n# ".to_vec(alloc)?;
+    late.extend_from_slice(&[b'x'; 5000])?;
+    let mut early = vec![in alloc; b'#'; 4090]?;
+    early.extend_from_slice(b"\ncluster n1\n")?;
+    let cases = [
+        faulty(b"cluster n1\n", &[1], &[], 4, b"stopped: read fault\n"),
+        faulty(
+            &late,
+            &[2],
+            &[],
+            4,
+            b"up n1 boot 1 term 0 last 0\nstopped: read fault\n",
+        ),
+        faulty(&early, &[2], &[], 4, b"stopped: read fault\n"),
+        faulty(b"cluster n1\nx\n", &[], &[1], 5, b""),
+        faulty(b"cluster n1\nx\n", &[], &[2], 5, UP),
+        faulty(
+            b"cluster n1\nx\n",
+            &[],
+            &[3],
+            3,
+            b"up n1 boot 1 term 0 last 0\nstopped: line 2\n",
+        ),
+        faulty(b"cluster n1\n", &[1], &[1], 5, b""),
+    ];
+    assert_eq!(rt; first_wrong_case(alloc, &cases)?, None);
+    Ok(())
+}
+
+// A comment of so many bytes, and then these.
+fn commented(alloc: Global, size: usize, rest: &[u8]) -> Result<Vec<u8>, Fail> {
+    let mut script = vec![in alloc; b'#'; size]?;
+    script.extend_from_slice(rest)?;
+    Ok(script)
+}
+
+#[test]
+fn longest_line(rt: HostRuntime) -> Result<(), Fail> {
+    let alloc = rt.alloc();
+    let fits = commented(alloc, 2_097_152, b"\r\ncluster n1\n")?;
+    let over = commented(alloc, 2_097_153, b"\ncluster n1\n")?;
+    let last_fits = commented(alloc, 2_097_152, b"")?;
+    let last_over = commented(alloc, 2_097_153, b"")?;
+    let cases = [
+        plain(&[b"cluster"], &fits, 0, UP),
+        plain(&[b"cluster"], &over, 3, b"stopped: line 1\n"),
+        plain(&[b"cluster"], &last_fits, 3, b"stopped: line 2\n"),
+        plain(&[b"cluster"], &last_over, 3, b"stopped: line 1\n"),
+    ];
+    assert_eq!(rt; first_wrong_case(alloc, &cases)?, None);
+    Ok(())
+}
+
+#[test]
+fn requests(rt: HostRuntime) -> Result<(), Fail> {
+    let cases = [
+        plain(
+            &[b"cluster"],
+            b"cluster n1\nask n1 POST /db/execute [\"CREATE TABLE foo (id INTEGER PRIMARY KEY)\"]\n",
+            0,
+            b"up n1 boot 1 term 0 last 0\nanswer 1 503 leader not found: term 0\n",
+        ),
+        plain(
+            &[b"cluster"],
+            b"cluster n1\nelect n1\nask n1 POST /db/execute [\"DROP TABLE foo\"]\napply n1\nbeat n1\n",
+            3,
+            b"up n1 boot 1 term 0 last 0\nanswer 1 200 {\"results\":[{\"error\":\"not built\"}]}\nstopped: line 5\n",
+        ),
+        plain(
+            &[b"cluster"],
+            b"cluster n1\nelect n1\nask n1 POST /db/execute [\"CREATE TABLE t (a TEXT)\"]\nelect n2\n",
+            3,
+            b"up n1 boot 1 term 0 last 0\nstopped: line 4\n",
+        ),
+        plain(
+            &[b"cluster"],
+            b"cluster n1\nelect n1\nask n1 POST /db/execute []\napply n1\nask n1 POST /db/execute []\n",
+            0,
+            b"up n1 boot 1 term 0 last 0\nanswer 1 200 {\"results\":[]}\npending 2\n",
+        ),
+        plain(
+            &[b"cluster"],
+            b"cluster n1\nask n1 POST /db/query?level=none [\"SELECT * FROM foo\"]\n",
+            0,
+            b"up n1 boot 1 term 0 last 0\nanswer 1 200 {\"results\":[{\"error\":\"no such table: foo\"}]}\n",
+        ),
+    ];
+    assert_eq!(rt; first_wrong_case(rt.alloc(), &cases)?, None);
+    Ok(())
+}
