@@ -2,8 +2,8 @@
 use Rattle.std.proofs.Common.{◌≡◌, ◌≢◌, ◌≤◌, ◌<◌, ◌⊎◌, inl, inr, ⊎_elim, ◌+◌, ℕ, suc, List, [], ◌∷◌, ◌++◌, length, nat_eq, true, false, Bool, if◌then◌else◌, refl, sym, ap, subst, ◌∙◌, append_assoc, length-append, arith}
 use Rattle.std.proofs.lemmas.List.{append-nil}
 use Rattle.std.proofs.lemmas.Bool.{cases_eq}
-use Rattle.rq_cluster.specs.World.{World, first_world, Steps, IsOutside, MayReach}
-use Rattle.rq_cluster.specs.Lines.{Line, drop_cr, lines_by, last_line, lines_of, IsOver, IsWithin}
+use Rattle.rq_cluster.specs.World.{World, first_world, Steps, IsOutside}
+use Rattle.rq_cluster.specs.Lines.{Line, drop_cr, lines_by, last_line, lines_of, IsOver}
 use Rattle.rq_cluster.specs.Play.{BrokenOff}
 use Rattle.rq_cluster.specs.Runs.{Runs, StopsAt}
 use Rattle.rq_cluster.specs.Feed.{After, PartOf, IsBetween, HasNoLineEnd}

@@ -12,7 +12,7 @@ use Rattle.rq_wal.specs.declared.base.Stored.{Stored}
 use Rattle.rq_wal.specs.declared.frame.Frame.{Frame}
 use Rattle.rq_wal.specs.declared.file.WalFile.{WalFile}
 use Rattle.rq_wal.specs.Spelling.{front_bytes, file_bytes, body_bytes, gated}
-use Rattle.rq_wal.specs.Stored.{applied, applied_all, stored_after, started}
+use Rattle.rq_wal.specs.Stored.{applied, applied_all, started}
 use Rattle.rq_wal.specs.WalFile.{wal_file, wal_end, wal_generation}
 use Rattle.rq_cluster.specs.Files.{HasStored}
 

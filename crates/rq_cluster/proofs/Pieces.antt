@@ -5,7 +5,6 @@ use Rattle.rq_cluster.specs.declared.progress.Progress.{Progress}
 use Rattle.rq_cluster.specs.World.{World, Steps, IsOutside}
 use Rattle.rq_cluster.specs.Lines.{Line, drop_cr, lines_of}
 use Rattle.rq_cluster.specs.Play.{Took, BrokenOff}
-use Rattle.rq_cluster.specs.Runs.{StopsAt}
 use Rattle.rq_cluster.specs.Feed.{After, IsAfter, PartOf, StopsKept, GoesOn, Stopped}
 use Rattle.rq_cluster.proofs.Cutting.{line_out, line_done, line_broken, broken_before}
 

@@ -1,6 +1,5 @@
 -- Every script has a whole text.
 use Rattle.std.proofs.Common.{◌≡◌, ◌≤◌, ◌<◌, ◌⊎◌, inl, inr, ⊎_elim, ◌+◌, ℕ, List, [], ◌∷◌, ◌++◌, length, sym, ap, subst, ◌∙◌, append_assoc, arith}
-use Rattle.std.specs.Prelude.{⊤}
 use Rattle.std.proofs.lemmas.List.{append-nil}
 use Rattle.rq_cluster.specs.World.{World, Steps, IsOutside, IsStarted, ending}
 use Rattle.rq_cluster.specs.Lines.{Line, lines_of, IsOver, IsWithin}

@@ -1,5 +1,5 @@
 -- A node, and what a rule gives: docs/RAFT.md, "The node".
-use Rattle.std.specs.Prelude.{◌+◌, ℕ, List, [], ◌∷◌, ◌++◌, length, Option}
+use Rattle.std.specs.Prelude.{ℕ, List, [], ◌∷◌, Option}
 use Rattle.rq_engine.specs.Database.{Database}
 use Rattle.rq_wal.specs.declared.frame.Frame.{Frame}
 use Rattle.rq_cluster.specs.declared.log_entry.LogEntry.{LogEntry}

@@ -1,5 +1,5 @@
 -- The line that the code has read.
-use Rattle.std.specs.Prelude.{◌≡◌, ℕ, List, Option, Some, None, MatchOption}
+use Rattle.std.specs.Prelude.{◌≡◌, Option, Some, None, MatchOption}
 use Rattle.rq_cluster.specs.declared.script.ScriptLine.{ScriptLine}
 use Rattle.rq_cluster.specs.declared.script.ScriptLine.TheVariants as read
 use Rattle.rq_cluster.specs.ScriptLine.{Line, Skip, Cluster, Elect, Apply, Execute, Query}

@@ -1,5 +1,5 @@
 -- The rules of a node that is the one voter of its cluster, as docs/RAFT.md has them.
-use Rattle.std.specs.Prelude.{◌+◌, ◌-◌, ◌^◌, if◌then◌else◌, ◌||◌, ◌==◌, not, nat_eq, nat_lt, ℕ, zero, suc, Bool, true, false, List, [], ◌∷◌, ◌++◌, length, slice_get, fold, Option, Some, None}
+use Rattle.std.specs.Prelude.{◌+◌, ◌-◌, ◌^◌, if◌then◌else◌, ◌||◌, ◌==◌, nat_lt, ℕ, zero, suc, Bool, true, false, List, [], ◌∷◌, ◌++◌, length, slice_get, Option, Some, None}
 use Rattle.rq_wire.specs.declared.entry.Entry.{Entry}
 use Rattle.rq_wire.specs.declared.entry.Body.{Body}
 use Rattle.rq_wire.specs.declared.entry.Body.TheVariants as body
@@ -13,7 +13,6 @@ use Rattle.rq_cluster.specs.declared.log_entry.Content.TheVariants.{NoOp, Execut
 use Rattle.rq_cluster.specs.declared.role.Role.{Role}
 use Rattle.rq_cluster.specs.declared.role.Role.TheVariants.{Follower, Candidate, Leader}
 use Rattle.rq_cluster.specs.declared.waiting.Waiting.{Waiting}
-use Rattle.rq_engine.specs.declared.say.Say.{Say}
 use Rattle.rq_engine.specs.declared.say.Say.TheVariants.{Results, NoLeader, EntryTooLarge}
 use Rattle.rq_engine.specs.declared.say.Answer.{Answer}
 use Rattle.rq_engine.specs.Meaning.{executed, answers}

@@ -1,5 +1,5 @@
 -- The lines of a script, as docs/SCRIPT.md, "Lines", has them.
-use Rattle.std.specs.Prelude.{if◌then◌else◌, ◌==◌, ℕ, Bool, List, [], ◌∷◌, length, take, drop, position, nat_eq, bytes_eq, codes, Option, Some, None, option_and_then}
+use Rattle.std.specs.Prelude.{if◌then◌else◌, ◌==◌, ℕ, List, [], ◌∷◌, length, take, drop, position, bytes_eq, codes, Option, Some, None, option_and_then}
 use Rattle.rq_values.specs.Text.{is_id}
 
 pub data Line : Type 0 where

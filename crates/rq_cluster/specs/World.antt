@@ -1,95 +1,81 @@
--- What a line does to the world of a script, as docs/SCRIPT.md has it, "Lines": which lines can stand where. What a line writes is said only so far as it is text behind what was there.
-use Rattle.std.specs.Prelude.{◌≡◌, ◌⊎◌, ℕ, Bool, true, false, ◌&&◌, List, [], bytes_eq, length, get_or, IsTrue, Option, Some, None, is_some, is_none, option_and_then}
-use Rattle.std.specs.Option.{option_map}
-use Rattle.std.specs.List.{flat_map}
+-- What a line does to the world of a script, and what it writes: docs/SCRIPT.md, "Lines".
+use Rattle.std.specs.Prelude.{◌≡◌, ◌⊎◌, ◌<◌, ◌++◌, ℕ, Bool, All, List, length, slice_get, Option, Some, None}
 use Rattle.rq_outside.specs.declared.pair.DiskPair.{DiskPair}
+use Rattle.rq_outside.specs.declared.pair.FileNo.{FileNo}
 use Rattle.rq_outside.specs.Disk.{DiskMeaning}
 use Rattle.rq_wal.specs.declared.file.WalFile.{WalFile}
-use Rattle.rq_json.specs.Body.{texts_of}
-use Rattle.rq_cluster.specs.Files.{IsOpen}
-use Rattle.rq_cluster.specs.ScriptLine.{Line, Skip, Cluster, Elect, Apply, Execute, Query, line_of}
-use Rattle.rq_cluster.specs.ScriptText.{pending_text}
-use Rattle.rq_cluster.specs.Server.{Server}
+use Rattle.rq_cluster.specs.Cluster as clusters
+use Rattle.rq_cluster.specs.Cluster.{Server, Cluster, Course, first_cluster, done}
+use Rattle.rq_cluster.specs.Preparing.{statements, AreRead}
+use Rattle.rq_cluster.specs.ScriptLine.{Line}
+use Rattle.rq_cluster.specs.Files.{IsClosed}
+use Rattle.rq_cluster.specs.Hosting.{stored_at, IsKept}
+use Rattle.rq_engine.specs.declared.item.Item.{Item}
 
--- its one server, once the cluster line was there
+-- the cluster, and the log file that its running node has open
 pub record World : Type 0 where
-  pub server : Option Server
+  pub cluster : Cluster
+  pub file : Option WalFile
 
 -- the world before the first line
 abbrev pub first_world : World
-first_world = record { server = None }
+first_world = record { cluster = first_cluster; file = None }
 
--- the server that the cluster line named
-abbrev pub name_in : World → Option (List ℕ)
-name_in w = option_map (λ (s : Server). s.id) w.server
+-- the line may write this text and lead to that world
+abbrev pub Steps : World → List ℕ → List ℕ → World → Type 0
+Steps w line text next = clusters.Steps w.cluster line text next.cluster
 
-abbrev pub names : Option (List ℕ) → List ℕ → Bool
-names None id = false
-names (Some there) id = bytes_eq there id
-
--- whether a line can stand where this server is there: the cluster line once and first, each other line at that server
-abbrev pub can_stand : Option (List ℕ) → Line → Bool
-can_stand there Skip = true
-can_stand there (Cluster id) = is_none there
-can_stand there (Elect id) = names there id
-can_stand there (Apply id) = names there id
-can_stand there (Execute id body) = names there id && is_some (texts_of body)
-can_stand there (Query id body) = names there id && is_some (texts_of body)
-
-abbrev pub stands : Option (List ℕ) → Option Line → Bool
-stands there None = false
-stands there (Some line) = can_stand there line
-
--- the server that is there behind a line
-abbrev pub name_behind : Option (List ℕ) → Option Line → Option (List ℕ)
-name_behind there None = there
-name_behind there (Some Skip) = there
-name_behind there (Some (Cluster id)) = Some id
-name_behind there (Some (Elect id)) = there
-name_behind there (Some (Apply id)) = there
-name_behind there (Some (Execute id body)) = there
-name_behind there (Some (Query id body)) = there
-
--- the line can stand here, and leads to a world with that server
-pub record Steps (w : World) (line text : List ℕ) (next : World) : Type 0 where
-  pub inside : stands (name_in w) (line_of line) ≡ true
-  pub leads : name_in next ≡ name_behind (name_in w) (line_of line)
-
--- the line is outside the grammar in this world
+-- the line can't stand here
 abbrev pub IsOutside : World → List ℕ → Type 0
-IsOutside w line = stands (name_in w) (line_of line) ≡ false
+IsOutside w line = clusters.IsOutside w.cluster line
 
--- where the line was broken off, this world may have been reached: one with the server before it, or with the one that it leads to
+-- where the line was broken off, this world may have been reached: the one before it, or one that it leads to
 abbrev pub MayReach : World → List ℕ → World → Type 0
-MayReach w line reached = (name_in reached ≡ name_in w) ⊎ (name_in reached ≡ name_behind (name_in w) (line_of line))
+MayReach w line reached = (reached.cluster ≡ w.cluster) ⊎ ((text : List ℕ) × Steps w line text reached)
 
 -- the cluster line was there
 abbrev pub IsStarted : World → Type 0
-IsStarted w = is_some w.server ≡ true
+IsStarted w = clusters.IsStarted w.cluster
 
--- the server's log file, while it runs
-abbrev pub file_at : World → Option WalFile
-file_at w = option_and_then (λ (s : Server). s.file) w.server
-
-abbrev pub pending_at : Option Server → List ℕ
-pending_at None = []
-pending_at (Some s) = flat_map pending_text s.unanswered
-
--- what is written at the end of a script: the asks without an answer
+-- what is written at the end of a script
 abbrev pub ending : World → List ℕ
-ending w = pending_at w.server
+ending w = clusters.ending w.cluster
+
+-- in one of its ways, a line has led to this cluster, and written this behind the text
+abbrev pub Leads : Cluster → Line → List ℕ → List ℕ → Cluster → Type 0
+Leads c line before after next =
+    (items : List Item) × (course : Course) × (written : List ℕ) × AreRead (statements line) items × (done items course c line ≡ Some (next, written)) × (after ≡ before ++ written)
+
+-- the cluster is the one before the line, or one to which the line leads
+abbrev pub MayLead : Cluster → Line → Cluster → Type 0
+MayLead c line reached =
+    (reached ≡ c) ⊎ ((items : List Item) × (course : Course) × (written : List ℕ) × AreRead (statements line) items × (done items course c line ≡ Some (reached, written)))
 
 module _ {D F : Type 0} (told : Bool) (means : D → DiskMeaning) where
-  -- the pair has the server's log while it runs
-  abbrev pub IsPairOf : DiskPair D F → Option Server → Type 0
-  IsPairOf pair None = IsTrue true
-  IsPairOf pair (Some s) = IsOpen told means pair s.file
+  -- no log stands in the pair's files
+  abbrev pub IsNew : DiskPair D F → Type 0
+  IsNew pair = (file : FileNo) → IsClosed told means pair file
 
-  -- nine pairs, the first of which is the server's
+  -- The pair of the one server: new until the server is there; while its node runs, the open file, which stands for the node.
+  -- Where a failing disk took the node down nothing is said of its pair.
+  abbrev pub ServerKept : DiskPair D F → Option Server → Option WalFile → Type 0
+  ServerKept pair None file = IsNew pair
+  ServerKept pair (Some s) file = IsKept told means pair (stored_at s) file
+
+  abbrev pub PairKept : DiskPair D F → World → Type 0
+  PairKept pair w = ServerKept pair w.cluster.server w.file
+
+  -- what want of memory has left, where it broke a line off
+  abbrev pub Breaks : DiskPair D F → Cluster → Line → Type 0
+  Breaks pair c line = (reached : World) × MayLead c line reached.cluster × PairKept pair reached
+
+  -- nine pairs: the first is the one server's, and the others are new
   pub record Holds (pairs : List (DiskPair D F)) (w : World) : Type 0 where
     pub count : length pairs ≡ 9
-    pub first : (pair : DiskPair D F) → get_or pairs 0 pair ≡ pair → IsPairOf pair w.server
+    pub first : (pair : DiskPair D F) → slice_get pairs 0 ≡ Some pair → PairKept pair w
+    pub others : (k : ℕ) (pair : DiskPair D F) → 0 < k → slice_get pairs k ≡ Some pair → IsNew pair
 
-  -- nine pairs
+  -- nine pairs in which no log stands
   pub record AreNew (pairs : List (DiskPair D F)) : Type 0 where
     pub count : length pairs ≡ 9
+    pub fresh : All IsNew pairs

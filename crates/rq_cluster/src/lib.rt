@@ -6,20 +6,23 @@ mod ending;
 mod feeding;
 mod giving;
 mod host;
+pub mod laws;
 mod line_error;
 mod log_entry;
-mod new_pairs;
+mod memory_pairs;
 mod node;
 mod progress;
 mod reading_lines;
 mod role;
 mod running;
+mod saying;
 mod script;
 mod turn_error;
 mod waiting;
 mod words;
 mod world;
 
+pub use memory_pairs::empty_pairs;
 pub use running::cluster_main;
 
 #[cfg(test)]

@@ -1,7 +1,11 @@
 // The top call: words, then the script of a source.
 ghost use Rattle.std.specs.Prelude.{◌≡◌, ◌≤◌, ◌⊎◌, ◌++◌, List, ℕ, IsTrue, IsSome, Some, None};
 ghost use Rattle.rq_outside.specs.Counts.{Rose};
-ghost use Rattle.rq_cluster.specs.World.{AreNew, Holds};
+ghost use Rattle.rq_cluster.specs.World.{World, Steps, AreNew, Holds};
+ghost use Rattle.rq_cluster.specs.Lines.{Line, IsWithin};
+ghost use Rattle.rq_cluster.specs.Runs.{Runs};
+ghost use Rattle.rq_cluster.specs.History.{history, node_in};
+ghost use Rattle.rq_cluster.specs.Promise.{Keeps, Grows};
 ghost use Rattle.rq_cluster.specs.CommandWords.{wrong_word};
 ghost use Rattle.rq_cluster.specs.LastLines.{stopped_word, LastLine};
 ghost use Rattle.rq_cluster.specs.Play.{Took, Wrote, IsStatus};
@@ -40,6 +44,7 @@ fn run_script<S: Source, D: Disk, K: Sink>(
 
 /// Runs the script of the source over the pairs, if the words are right, and answers the status. The k-th node of the
 /// script uses the k-th pair. The words are those after the program's name.
+#[tactic(auto, using(crate::proofs::Sentences::kept, crate::proofs::Sentences::grows))]
 pub fn cluster_main<S: Source, K: Sink, D: Disk, R: Draws>(
     alloc: Global,
     words: &[Word],
@@ -71,6 +76,11 @@ pub fn cluster_main<S: Source, K: Sink, D: Disk, R: Draws>(
         (result ≡ 0) ⊎ (result ≡ 3) ⊎ (result ≡ 6) }
     ensures refused { (place : ℕ) (word : List ℕ) → wrong_word words.now ≡ Some (place, word) → (Rose (K.faults sink.old) (K.faults sink.new) → ⊥) →
         (result ≡ 2) ⊎ (result ≡ 6) }
+
+    // That run, as every run, keeps the sentence at each of its moments, and what it chose and noted only grows.
+    ensures sentence { (lines : List Line) (text : List ℕ) (w : World) (run : Runs lines text w) → Keeps (history run) (node_in w.cluster) }
+    ensures grows { (lines : List Line) (text : List ℕ) (w : World) (run : Runs lines text w) (l : Line) (more : List ℕ) (next : World) (within : IsWithin l) (steps : Steps w l.text more next) →
+        Grows (history run) (history (Runs.line l more next run within steps)) }
 
     ensures undrawn { draws.new ≡ draws.old }
 {

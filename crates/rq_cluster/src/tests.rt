@@ -1,7 +1,5 @@
-ghost use Rattle.std.specs.Prelude.{◌≡◌, length, IfOk};
-
 use super::*;
-use rq_outside::{DiskPair, MemSink, MemSource, SureDisk, SureDraws, Word};
+use rq_outside::{MemSink, MemSource, SureDraws, Word};
 use std::alloc::Global;
 use std::test::Fail;
 
@@ -18,32 +16,6 @@ struct Case<'a> {
     text: &'a [u8],
 }
 
-fn new_pair(alloc: Global) -> Result<DiskPair<SureDisk>, Fail> {
-    let one = SureDisk::new(alloc, Vec::new(alloc)).ok().ok_or("memory")?;
-    let two = SureDisk::new(alloc, Vec::new(alloc)).ok().ok_or("memory")?;
-    Ok(DiskPair::new(one, two))
-}
-
-fn new_pairs(alloc: Global) -> Result<Vec<DiskPair<SureDisk>>, Fail>
-    ensures { IfOk result (λ pairs. length pairs.items ≡ 9) }
-{
-    let pairs = [
-        new_pair(alloc)?,
-        new_pair(alloc)?,
-        new_pair(alloc)?,
-        new_pair(alloc)?,
-        new_pair(alloc)?,
-        new_pair(alloc)?,
-        new_pair(alloc)?,
-        new_pair(alloc)?,
-        new_pair(alloc)?,
-    ];
-    match Vec::from_array(alloc, pairs) {
-        Ok(pairs) => Ok(pairs),
-        Err(_) => Err("memory".into()),
-    }
-}
-
 // Whether the call answers and writes what it must.
 fn is_right(alloc: Global, case: &Case) -> Result<bool, Fail> {
     let mut words = Vec::new(alloc);
@@ -55,7 +27,7 @@ fn is_right(alloc: Global, case: &Case) -> Result<bool, Fail> {
     }
     let mut source = MemSource::new(case.script.to_vec(alloc)?, case.reads.to_vec(alloc)?);
     let mut sink = MemSink::new(Vec::new(alloc), case.writes.to_vec(alloc)?);
-    let mut disks = new_pairs(alloc)?;
+    let mut disks = empty_pairs(alloc).ok().ok_or("memory")?;
     let mut draws = SureDraws::new(Vec::new(alloc));
     let status = cluster_main(
         alloc,
@@ -249,6 +221,32 @@ fn requests(rt: HostRuntime) -> Result<(), Fail> {
             0,
             b"up n1 boot 1 term 0 last 0\nanswer 1 200 {\"results\":[{\"error\":\"no such table: foo\"}]}\n",
         ),
+    ];
+    assert_eq!(rt; first_wrong_case(rt.alloc(), &cases)?, None);
+    Ok(())
+}
+
+const FIRST: &[u8] = b"cluster n1\nelect n1\n\
+ask n1 POST /db/execute [\"CREATE TABLE foo (id INTEGER PRIMARY KEY, name TEXT, age INTEGER)\"]\n\
+ask n1 POST /db/execute [\"INSERT INTO foo(name, age) VALUES('fiona', 20)\"]\napply n1\n\
+ask n1 POST /db/query?level=none [\"SELECT * FROM foo\"]\n";
+
+const ANSWERS: &[u8] = b"up n1 boot 1 term 0 last 0\n\
+answer 1 200 {\"results\":[{}]}\n\
+answer 2 200 {\"results\":[{\"last_insert_id\":1,\"rows_affected\":1}]}\n";
+
+// Each write of the first session fails in turn; the third is the last.
+#[test]
+fn each_write_fails(rt: HostRuntime) -> Result<(), Fail> {
+    let row =
+        b"answer 3 200 {\"results\":[{\"columns\":[\"id\",\"name\",\"age\"],\"types\":[\"integer\",\"text\",\"integer\"],\"values\":[[1,\"fiona\",20]]}]}\n";
+    let mut all = ANSWERS.to_vec(rt.alloc())?;
+    all.extend_from_slice(row)?;
+    let cases = [
+        faulty(FIRST, &[], &[1], 5, b""),
+        faulty(FIRST, &[], &[2], 5, UP),
+        faulty(FIRST, &[], &[3], 5, ANSWERS),
+        faulty(FIRST, &[], &[4], 0, &all),
     ];
     assert_eq!(rt; first_wrong_case(rt.alloc(), &cases)?, None);
     Ok(())

@@ -1,9 +1,10 @@
-//! The world of a script, and what its lines do: docs/SCRIPT.md, "Lines".
-ghost use Rattle.std.specs.Prelude.{◌≡◌, ◌++◌, ◌↔◌, List, ℕ, None, Some, true, false, is_some, IsTrue, IfOk, IfErr, OnOk, OnErr, IsErrOf, ◌⊎◌, ◌&&◌, is_none};
+//! The cluster of a script, and what its lines do: docs/SCRIPT.md, "Lines".
+ghost use Rattle.std.specs.Prelude.{◌≡◌, ◌++◌, ◌↔◌, ℕ, List, [], None, Some, IsTrue, IfOk, OnOk, IsErrOf, MatchOption, length};
 ghost use Rattle.rq_json.specs.Body.{texts_of};
+ghost use Rattle.rq_cluster.specs.Cluster.{Whole, done};
 ghost use Rattle.rq_cluster.specs.ReadLine.{line_read};
-ghost use Rattle.rq_cluster.specs.ScriptText.{Adds};
-ghost use Rattle.rq_cluster.specs.World.{World as TheWorld, first_world, name_in, names, name_behind, can_stand, file_at, Steps, IsOutside, MayReach, IsStarted, ending, IsPairOf, Holds};
+ghost use Rattle.rq_cluster.specs.ScriptLine as lines;
+ghost use Rattle.rq_cluster.specs.World.{World as TheWorld, first_world, Steps, IsOutside, MayReach, IsStarted, ending, Leads, Breaks, PairKept, Holds};
 ghost use Rattle.rq_cluster.specs.declared.line_error.LineError.TheVariants.{Outside, NoMemory as OutOfMemory};
 
 use crate::host::Host;
@@ -16,19 +17,26 @@ use rq_values::{Id, NoMemory, Seq, Text};
 use std::alloc::Global;
 use std::marker::Model;
 
-/// The server of a script, and how many asks there were.
+/// The cluster of a script.
 #[derive(Drop)]
 pub struct World {
     host: Option<Host>,
+    /// How many asks the script has made.
     asks: u64,
 }
 
 impl Model for World {
+    ghost use Rattle.std.specs.Prelude.{option_and_then};
+    ghost use Rattle.std.specs.Option.{option_map};
+    ghost use Rattle.rq_cluster.specs.Hosting.{server_of, file_of};
     ghost use Rattle.rq_cluster.specs.World.{World};
 
     ghost Value = { World };
 
-    ghost view = { λ w. record { server = w.host } };
+    ghost view = { λ w. record {
+      cluster = record { server = option_map server_of w.host; asks = w.asks };
+      file = option_and_then file_of w.host;
+    } };
 }
 
 impl World {
@@ -42,7 +50,14 @@ impl World {
         }
     }
 
-    /// Does a line, and adds its text.
+    /// Whether the cluster line was there.
+    pub fn is_started(&self) -> bool
+        ensures { IsTrue result ↔ IsStarted self.now }
+    {
+        self.host.is_some()
+    }
+
+    /// Does a line, and appends its text.
     pub fn step<D: Disk>(
         &mut self,
         alloc: Global,
@@ -55,20 +70,10 @@ impl World {
         ensures outside { IsErrOf result Outside → IsOutside self.old line.now × Holds D.told D.means disks.new.items self.old }
         ensures broken { IsErrOf result OutOfMemory → (reached : TheWorld) × MayReach self.old line.now reached × Holds D.told D.means disks.new.items reached }
     {
-        let Some(line) = script_line(line) else {
-            return Err(LineError::Outside);
-        };
-        self.done(alloc, &mut disks[0], line, text)
+        self.step_on(alloc, &mut disks[0], line, text)
     }
 
-    /// Whether the cluster line was there.
-    pub fn is_started(&self) -> bool
-        ensures { IsTrue result ↔ IsStarted self.now }
-    {
-        self.host.is_some()
-    }
-
-    /// Adds what is written at the end of a script.
+    /// Appends what is written at the script's end.
     pub fn write_ending(&self, alloc: Global, text: &mut Vec<u8>) -> Result<(), NoMemory>
         ensures { OnOk result (text.new.items ≡ text.old.items ++ ending self.now) }
     {
@@ -78,194 +83,201 @@ impl World {
         }
     }
 
-    /// Whether this is the server's id.
-    fn is_server(&self, id: &Id) -> bool
-        ensures { result ≡ names (name_in self.now) id.now }
+    /// Does a line at the pair of the one server.
+    fn step_on<D: Disk>(
+        &mut self,
+        alloc: Global,
+        disks: &mut DiskPair<D>,
+        line: &[u8],
+        text: &mut Vec<u8>,
+    ) -> Result<(), LineError>
+        requires kept { PairKept D.told D.means disks.old self.old }
+        ensures ok { OnOk result ((written : List ℕ) × Steps self.old line.now written self.new × (text.new.items ≡ text.old.items ++ written)) }
+        ensures kept { OnOk result (PairKept D.told D.means disks.new self.new) }
+        ensures outside { IsErrOf result Outside → IsOutside self.old line.now }
+        ensures untouched { IsErrOf result Outside → disks.new ≡ disks.old }
+        ensures broken { IsErrOf result OutOfMemory → (reached : TheWorld) × MayReach self.old line.now reached × PairKept D.told D.means disks.new reached }
     {
-        match &self.host {
-            Some(host) => host.id() == id,
-            None => false,
+        match &script_line(line) {
+            Some(line) => self.do_line(alloc, disks, line, text),
+            None => Err(LineError::Outside),
         }
     }
 
-    /// The number of the ask to come. That it isn't below 2^64 counts as want of memory.
-    fn next_ask(&mut self) -> Result<u64, NoMemory>
-        ensures { self.new ≡ self.old }
-    {
-        let number = self.asks.checked_add(1).ok_or(NoMemory)?;
-        self.asks = number;
-        Ok(number)
-    }
-
-    /// Does a line that was read, with the server's pair.
-    fn done<D: Disk>(
+    /// Does a line that was read.
+    fn do_line<D: Disk>(
         &mut self,
         alloc: Global,
-        pair: &mut DiskPair<D>,
-        line: ScriptLine<'_>,
+        disks: &mut DiskPair<D>,
+        line: &ScriptLine<'_>,
         text: &mut Vec<u8>,
     ) -> Result<(), LineError>
-        requires pair { IsPairOf D.told D.means pair.old self.old.server }
-        ensures ok { OnOk result (can_stand (name_in self.old) (line_read line.entry) ≡ true) }
-        ensures leads { OnOk result (name_in self.new ≡ name_behind (name_in self.old) (Some (line_read line.entry))) }
-        ensures text { OnOk result (Adds text.old.items text.new.items) }
-        ensures outside { IsErrOf result Outside → can_stand (name_in self.old) (line_read line.entry) ≡ false }
-        ensures unchanged { IsErrOf result Outside → (self.new ≡ self.old) × (pair.new ≡ pair.old) }
-        ensures broken { IsErrOf result OutOfMemory → (name_in self.new ≡ name_in self.old) ⊎ (name_in self.new ≡ name_behind (name_in self.old) (Some (line_read line.entry))) }
-        ensures pair { IsPairOf D.told D.means pair.new self.new.server }
+        requires kept { PairKept D.told D.means disks.old self.old }
+        ensures ok { OnOk result (Leads self.old.cluster (line_read line.now) text.old.items text.new.items self.new.cluster) }
+        ensures kept { OnOk result (PairKept D.told D.means disks.new self.new) }
+        ensures outside { IsErrOf result Outside → done [] Whole self.old.cluster (line_read line.now) ≡ None }
+        ensures untouched { IsErrOf result Outside → disks.new ≡ disks.old }
+        ensures broken { IsErrOf result OutOfMemory → Breaks D.told D.means disks.new self.old.cluster (line_read line.now) }
     {
         match line {
             ScriptLine::Skip => Ok(()),
-            ScriptLine::Cluster { id } => self.found(alloc, pair, id, text),
-            ScriptLine::Elect { id } => self.elect(alloc, pair, id, text),
-            ScriptLine::Apply { id } => self.apply(alloc, id, text),
-            ScriptLine::Execute { id, body } => self.execute(alloc, pair, id, body, text),
-            ScriptLine::Query { id, body } => self.query(alloc, id, body, text),
+            ScriptLine::Cluster { id } => self.found(alloc, disks, *id, text),
+            ScriptLine::Elect { id } => self.elect(alloc, disks, *id, text),
+            ScriptLine::Apply { id } => self.apply(alloc, disks, *id, text),
+            ScriptLine::Execute { id, body } => self.execute(alloc, disks, *id, body, text),
+            ScriptLine::Query { id, body } => self.query(alloc, disks, *id, body, text),
         }
     }
 
-    /// Makes the server of the cluster line, once.
+    /// Makes the cluster, once.
     fn found<D: Disk>(
         &mut self,
         alloc: Global,
-        pair: &mut DiskPair<D>,
+        disks: &mut DiskPair<D>,
         id: Id,
         text: &mut Vec<u8>,
     ) -> Result<(), LineError>
-        requires pair { IsPairOf D.told D.means pair.old self.old.server }
-        ensures ok { OnOk result (name_in self.old ≡ None) }
-        ensures leads { IsErrOf result Outside ⊎ (name_in self.new ≡ Some id) }
-        ensures text { OnOk result (Adds text.old.items text.new.items) }
-        ensures outside { IsErrOf result Outside → (is_none (name_in self.old) ≡ false) × (self.new ≡ self.old) × (pair.new ≡ pair.old) }
-        ensures pair { IsPairOf D.told D.means pair.new self.new.server }
+        requires kept { PairKept D.told D.means disks.old self.old }
+        ensures ok { OnOk result (Leads self.old.cluster (lines.Cluster id) text.old.items text.new.items self.new.cluster) }
+        ensures kept { OnOk result (PairKept D.told D.means disks.new self.new) }
+        ensures outside { IsErrOf result Outside → done [] Whole self.old.cluster (lines.Cluster id) ≡ None }
+        ensures untouched { IsErrOf result Outside → disks.new ≡ disks.old }
+        ensures broken { IsErrOf result OutOfMemory → Breaks D.told D.means disks.new self.old.cluster (lines.Cluster id) }
     {
         if self.host.is_some() {
             return Err(LineError::Outside);
         }
-        let mut host = Host::new(alloc, id);
-        let started = host.start(alloc, pair, text);
-        self.host = Some(host);
-        started?;
+        self.host = Some(Host::start(alloc, disks, id, text)?);
         Ok(())
     }
 
+    /// Lets the node with this id stand for election.
     fn elect<D: Disk>(
         &mut self,
         alloc: Global,
-        pair: &mut DiskPair<D>,
+        disks: &mut DiskPair<D>,
         id: Id,
         text: &mut Vec<u8>,
     ) -> Result<(), LineError>
-        requires pair { IsPairOf D.told D.means pair.old self.old.server }
-        ensures ok { OnOk result (names (name_in self.old) id ≡ true) }
-        ensures name { name_in self.new ≡ name_in self.old }
-        ensures text { OnOk result (Adds text.old.items text.new.items) }
-        ensures outside { IsErrOf result Outside → (names (name_in self.old) id ≡ false) × (self.new ≡ self.old) × (pair.new ≡ pair.old) }
-        ensures pair { IsPairOf D.told D.means pair.new self.new.server }
+        requires kept { PairKept D.told D.means disks.old self.old }
+        ensures ok { OnOk result (Leads self.old.cluster (lines.Elect id) text.old.items text.new.items self.new.cluster) }
+        ensures kept { OnOk result (PairKept D.told D.means disks.new self.new) }
+        ensures outside { IsErrOf result Outside → done [] Whole self.old.cluster (lines.Elect id) ≡ None }
+        ensures untouched { IsErrOf result Outside → disks.new ≡ disks.old }
+        ensures broken { IsErrOf result OutOfMemory → Breaks D.told D.means disks.new self.old.cluster (lines.Elect id) }
     {
-        if !self.is_server(&id) {
+        let Some(host) = &mut self.host else {
+            return Err(LineError::Outside);
+        };
+        if *host.id() != id {
             return Err(LineError::Outside);
         }
-        match &mut self.host {
-            Some(host) => {
-                host.elect(alloc, pair, text)?;
-                Ok(())
-            }
-            None => Err(LineError::Outside),
-        }
+        host.elect(alloc, disks, text)?;
+        Ok(())
     }
 
-    fn apply(&mut self, alloc: Global, id: Id, text: &mut Vec<u8>) -> Result<(), LineError>
-        ensures ok { OnOk result (names (name_in self.old) id ≡ true) }
-        ensures file { file_at self.new ≡ file_at self.old }
-        ensures name { name_in self.new ≡ name_in self.old }
-        ensures text { OnOk result (Adds text.old.items text.new.items) }
-        ensures outside { IsErrOf result Outside → (names (name_in self.old) id ≡ false) × (self.new ≡ self.old) }
+    /// Lets the node with this id apply what is committed.
+    fn apply<D: Disk>(
+        &mut self,
+        alloc: Global,
+        disks: &mut DiskPair<D>,
+        id: Id,
+        text: &mut Vec<u8>,
+    ) -> Result<(), LineError>
+        requires kept { PairKept D.told D.means disks.old self.old }
+        ensures ok { OnOk result (Leads self.old.cluster (lines.Apply id) text.old.items text.new.items self.new.cluster) }
+        ensures kept { OnOk result (PairKept D.told D.means disks.new self.new) }
+        ensures outside { IsErrOf result Outside → done [] Whole self.old.cluster (lines.Apply id) ≡ None }
+        ensures untouched { disks.new ≡ disks.old }
     {
-        if !self.is_server(&id) {
+        let Some(host) = &mut self.host else {
+            return Err(LineError::Outside);
+        };
+        if *host.id() != id {
             return Err(LineError::Outside);
         }
-        match &mut self.host {
-            Some(host) => {
-                host.apply(alloc, text)?;
-                Ok(())
-            }
-            None => Err(LineError::Outside),
-        }
+        let _disks = disks;
+        host.apply(alloc, text)?;
+        Ok(())
     }
 
+    /// Puts a list to the node with this id.
     fn execute<D: Disk>(
         &mut self,
         alloc: Global,
-        pair: &mut DiskPair<D>,
+        disks: &mut DiskPair<D>,
         id: Id,
         body: &[u8],
         text: &mut Vec<u8>,
     ) -> Result<(), LineError>
-        requires pair { IsPairOf D.told D.means pair.old self.old.server }
-        ensures ok { OnOk result ((names (name_in self.old) id ≡ true) × (is_some (texts_of body.now) ≡ true)) }
-        ensures name { name_in self.new ≡ name_in self.old }
-        ensures text { OnOk result (Adds text.old.items text.new.items) }
-        ensures outside { IsErrOf result Outside → ((names (name_in self.old) id && is_some (texts_of body.now)) ≡ false) × (self.new ≡ self.old) × (pair.new ≡ pair.old) }
-        ensures pair { IsPairOf D.told D.means pair.new self.new.server }
+        requires kept { PairKept D.told D.means disks.old self.old }
+        ensures ok { OnOk result (Leads self.old.cluster (lines.Execute id body.now) text.old.items text.new.items self.new.cluster) }
+        ensures kept { OnOk result (PairKept D.told D.means disks.new self.new) }
+        ensures outside { IsErrOf result Outside → done [] Whole self.old.cluster (lines.Execute id body.now) ≡ None }
+        ensures untouched { IsErrOf result Outside → disks.new ≡ disks.old }
+        ensures broken { IsErrOf result OutOfMemory → Breaks D.told D.means disks.new self.old.cluster (lines.Execute id body.now) }
     {
-        if !self.is_server(&id) {
+        let Some(host) = &mut self.host else {
+            return Err(LineError::Outside);
+        };
+        if *host.id() != id {
             return Err(LineError::Outside);
         }
         let Some(items) = items_of(alloc, body)? else {
             return Err(LineError::Outside);
         };
-        let number = self.next_ask()?;
-        match &mut self.host {
-            Some(host) => {
-                host.execute(alloc, pair, number, items, text)?;
-                Ok(())
-            }
-            None => Err(LineError::Outside),
-        }
+        let number = self.asks.checked_add(1).ok_or(NoMemory)?;
+        self.asks = number;
+        host.execute(alloc, disks, number, items, text)?;
+        Ok(())
     }
 
-    fn query(
+    /// Puts queries to the node with this id.
+    fn query<D: Disk>(
         &mut self,
         alloc: Global,
+        disks: &mut DiskPair<D>,
         id: Id,
         body: &[u8],
         text: &mut Vec<u8>,
     ) -> Result<(), LineError>
-        ensures ok { OnOk result ((names (name_in self.old) id ≡ true) × (is_some (texts_of body.now) ≡ true)) }
-        ensures file { file_at self.new ≡ file_at self.old }
-        ensures name { name_in self.new ≡ name_in self.old }
-        ensures text { OnOk result (Adds text.old.items text.new.items) }
-        ensures outside { IsErrOf result Outside → ((names (name_in self.old) id && is_some (texts_of body.now)) ≡ false) × (self.new ≡ self.old) }
+        requires kept { PairKept D.told D.means disks.old self.old }
+        ensures ok { OnOk result (Leads self.old.cluster (lines.Query id body.now) text.old.items text.new.items self.new.cluster) }
+        ensures kept { OnOk result (PairKept D.told D.means disks.new self.new) }
+        ensures outside { IsErrOf result Outside → done [] Whole self.old.cluster (lines.Query id body.now) ≡ None }
+        ensures untouched { disks.new ≡ disks.old }
     {
-        if !self.is_server(&id) {
+        let Some(host) = &mut self.host else {
+            return Err(LineError::Outside);
+        };
+        if *host.id() != id {
             return Err(LineError::Outside);
         }
+        let _disks = disks;
         let Some(items) = items_of(alloc, body)? else {
             return Err(LineError::Outside);
         };
-        let number = self.next_ask()?;
-        match &mut self.host {
-            Some(host) => {
-                host.query(alloc, number, items.as_slice(), text)?;
-                Ok(())
-            }
-            None => Err(LineError::Outside),
-        }
+        let number = self.asks.checked_add(1).ok_or(NoMemory)?;
+        self.asks = number;
+        host.query(alloc, number, items.as_slice(), text)?;
+        Ok(())
     }
 }
 
-/// The prepared statements of a body, or None exactly where it lists none.
+/// The prepared statements of a body, or None exactly where it is no list of them.
 fn items_of(alloc: Global, body: &[u8]) -> Result<Option<Seq<Item>>, NoMemory>
-    ensures { IfOk result (λ items. is_some items ≡ is_some (texts_of body.now)) }
+    ensures { IfOk result (λ items. MatchOption items (texts_of body.now ≡ None) (λ list. (texts : List (List ℕ)) × (texts_of body.now ≡ Some texts) × (length list ≡ length texts))) }
 {
     match statements_of(alloc, body)? {
-        Some(texts) => Ok(Some(prepared(alloc, texts.as_slice())?)),
+        Some(texts) => Ok(Some(prepared_all(alloc, texts.as_slice())?)),
         None => Ok(None),
     }
 }
 
-fn prepared(alloc: Global, texts: &[Text]) -> Result<Seq<Item>, NoMemory> {
+/// The statements, prepared.
+fn prepared_all(alloc: Global, texts: &[Text]) -> Result<Seq<Item>, NoMemory>
+    ensures { IfOk result (λ items. length items ≡ length texts.now) }
+{
     let mut items = Seq::new(alloc);
     for text in texts {
         items.push(prepare(alloc, text.bytes())?)?;

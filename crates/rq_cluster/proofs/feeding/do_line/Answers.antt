@@ -1,6 +1,5 @@
 use Rattle.std.proofs.Common.{Err, ◌≤◌, ◌++◌, ◌∙◌, [], List, ℕ, length, ap, sym, subst, arith}
 use Rattle.std.proofs.lemmas.List.{append-nil}
-use Rattle.rq_cluster.specs.World.{Holds}
 use Rattle.rq_cluster.specs.LastLines.{IsPrefix}
 use Rattle.rq_cluster.specs.Feed.{PartOf}
 use Rattle.rq_cluster.proofs.feeding.do_line.Goals as goal
@@ -32,3 +31,10 @@ returns-clause-part g c =
     let fits : length c.args.line.now ≤ 2097152 = omega (arith, c.if-line-gt-MAX_LINE.false) in
     let said = c.deref.ensures.value ∙ o.2 ∙ ap (λ (l : List ℕ). l ++ o.0) c.new-text.ensures.items in
     (e.0, e.1, PartOf.writing e.0 o.0 c.step.new.self fits o.1 (subst (λ (l : List ℕ). IsPrefix e.0 l) said e.2) o.3)
+
+pub returns-in-Ok-give-clause-ok : goal.returns-in-Ok-give-clause-ok
+returns-in-Ok-give-clause-ok g c =
+    let o = c.in-Ok.ensures.ok in
+    let fits : length c.args.line.now ≤ 2097152 = omega (arith, c.if-line-gt-MAX_LINE.false) in
+    let said = c.deref.ensures.value ∙ o.2 ∙ ap (λ (l : List ℕ). l ++ o.0) c.new-text.ensures.items in
+    (o.0, fits, o.1, (λ told. c.in-Ok-give.ensures.ok told ∙ ap (λ (l : List ℕ). g.K.Sink.taken c.args.sink.now ++ l) said))

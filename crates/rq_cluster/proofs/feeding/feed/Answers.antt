@@ -1,4 +1,4 @@
-use Rattle.std.proofs.Common.{◌≡◌, ◌<◌, ◌+◌, ◌-◌, ◌++◌, List, ℕ, length, take, drop, subst, arith, length-drop, length-take}
+use Rattle.std.proofs.Common.{◌-◌, ◌++◌, List, ℕ, length, take, drop, subst, arith, length-drop, length-take}
 use Rattle.std.proofs.lemmas.List.{take_rest, take_all}
 use Rattle.rq_cluster.specs.declared.feeding.Stop.TheVariants.{Outside as StopOutside}
 use Rattle.rq_cluster.specs.Lines.{Line}

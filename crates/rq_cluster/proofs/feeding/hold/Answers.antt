@@ -1,5 +1,4 @@
-use Rattle.std.proofs.Common.{◌+◌, ◌++◌, [], List, ℕ, length, sym, subst, arith, refl, inl, inr}
-use Rattle.std.proofs.lemmas.List.{append-nil}
+use Rattle.std.proofs.Common.{◌+◌, ◌++◌, List, ℕ, length, sym, subst, arith, refl, inl, inr}
 use Rattle.rq_cluster.specs.Lines.{lines_of}
 use Rattle.rq_cluster.specs.Runs.{StopsAt}
 use Rattle.rq_cluster.specs.Feed.{After, IsBetween}

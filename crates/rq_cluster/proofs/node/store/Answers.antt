@@ -1,8 +1,6 @@
-use Rattle.std.proofs.Common.{◌≡◌, ◌∙◌, sym, subst, Option, Ok, ap}
+use Rattle.std.proofs.Common.{◌∙◌, sym, subst, Option}
 use Rattle.rq_wal.specs.declared.file.WalFile.{WalFile}
-use Rattle.rq_wal.specs.WalFile.{wal_file}
-use Rattle.rq_wal.specs.Spelling.{piece_of}
-use Rattle.rq_cluster.specs.Files.{StandsFor, HasStored}
+use Rattle.rq_cluster.specs.Files.{StandsFor}
 use Rattle.rq_cluster.proofs.FileSteps.{stored_more, stored_kept}
 use Rattle.rq_cluster.proofs.node.store.Goals as goal
 

@@ -1,4 +1,4 @@
-use Rattle.std.proofs.Common.{◌≡◌, ◌∷◌, [], Option, ◌∙◌, sym, ap, subst}
+use Rattle.std.proofs.Common.{◌∷◌, [], ◌∙◌, sym, ap, subst}
 use Rattle.rq_wal.specs.declared.base.Base.{Base}
 use Rattle.rq_wal.specs.declared.base.Stored.{Stored}
 use Rattle.rq_wal.specs.declared.frame.Frame.TheVariants.{Boot}

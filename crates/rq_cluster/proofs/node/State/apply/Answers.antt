@@ -1,4 +1,4 @@
-use Rattle.std.proofs.Common.{◌≡◌, ◌≤◌, ◌<◌, ◌-◌, ◌∙◌, List, [], length, refl, sym, ap, subst, arith}
+use Rattle.std.proofs.Common.{◌≤◌, ◌<◌, ◌-◌, ◌∙◌, List, [], length, sym, ap, subst, arith}
 use Rattle.rq_engine.specs.declared.say.Answer.{Answer}
 use Rattle.rq_cluster.specs.Node.{Node, Turn}
 use Rattle.rq_cluster.specs.Rules.{apply, apply_times}

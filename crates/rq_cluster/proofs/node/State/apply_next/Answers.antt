@@ -1,13 +1,9 @@
-use Rattle.std.proofs.Common.{◌≡◌, ◌++◌, ◌+◌, ◌∙◌, List, sym, ap, subst}
-use Rattle.rq_engine.specs.Database.{Database}
-use Rattle.rq_engine.specs.declared.say.Answer.{Answer}
+use Rattle.std.proofs.Common.{◌++◌, ◌∙◌, List, sym, ap}
 use Rattle.rq_engine.specs.declared.item.Item.{Item}
 use Rattle.rq_engine.specs.Meaning.{executed}
-use Rattle.rq_cluster.specs.Node.{Node, Turn}
-use Rattle.rq_cluster.specs.Rules.{applied_content}
+use Rattle.rq_cluster.specs.Node.{Turn}
 use Rattle.rq_cluster.specs.contracts.node.State.{the_view}
-use Rattle.rq_cluster.specs.declared.waiting.Waiting.{Waiting}
-use Rattle.rq_cluster.specs.declared.log_entry.Content.TheVariants.{NoOp, Execute}
+use Rattle.rq_cluster.specs.declared.log_entry.Content.TheVariants.{NoOp}
 use Rattle.rq_cluster.proofs.NodeSteps.{applies_seen, nothing_behind, executes_node, executes_answers}
 use Rattle.rq_cluster.proofs.node.State.apply_next.Goals as goal
 

@@ -1,4 +1,4 @@
-use Rattle.std.proofs.Common.{◌≡◌, ◌∙◌, List, ℕ, [], ◌∷◌, ◌++◌, true, refl, ap, arith}
+use Rattle.std.proofs.Common.{◌∙◌, List, ℕ, [], ◌∷◌, ◌++◌, refl, ap, arith}
 use Rattle.rq_values.specs.Text.{is_addr}
 use Rattle.rq_cluster.proofs.Addresses.{port_of_id}
 use Rattle.rq_cluster.proofs.node.starting.first_base.Goals as goal

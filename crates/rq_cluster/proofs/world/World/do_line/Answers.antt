@@ -1,0 +1,7 @@
+use Rattle.std.proofs.Common.{ap}
+use Rattle.rq_cluster.specs.ReadLine.{line_read}
+use Rattle.rq_cluster.proofs.Servers.{skips}
+use Rattle.rq_cluster.proofs.world.World.do_line.Goals as goal
+
+pub returns-in-Skip-clause-ok : goal.returns-in-Skip-clause-ok
+returns-in-Skip-clause-ok g c = skips c.args.self.now.cluster (line_read c.args.line.now) c.args.text.now.items (ap line_read c.in-Skip.is)

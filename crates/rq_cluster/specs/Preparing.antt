@@ -1,0 +1,27 @@
+-- What the statements of a line are read as.
+use Rattle.std.specs.Prelude.{◌≡◌, ℕ, List, [], length, Option, Some, None}
+use Rattle.rq_engine.specs.declared.item.Item.{Item}
+use Rattle.rq_json.specs.Body.{texts_of}
+use Rattle.rq_cluster.specs.ScriptLine.{Line, Skip, Cluster, Elect, Apply, Execute, Query}
+
+-- the texts of the statements that a body lists, none where it isn't a list
+abbrev pub listed : Option (List (List ℕ)) → List (List ℕ)
+listed None = []
+listed (Some texts) = texts
+
+-- the statements of a line
+abbrev pub statements : Line → List (List ℕ)
+statements (Execute id body) = listed (texts_of body)
+statements (Query id body) = listed (texts_of body)
+statements Skip = []
+statements (Cluster id) = []
+statements (Elect id) = []
+statements (Apply id) = []
+
+abbrev pub statements_in : Option Line → List (List ℕ)
+statements_in None = []
+statements_in (Some line) = statements line
+
+-- An item for each statement, in order. Which item a statement's text gives isn't said yet.
+abbrev pub AreRead : List (List ℕ) → List Item → Type 0
+AreRead texts items = length items ≡ length texts
