@@ -1,0 +1,8 @@
+//! The tokens of a text. The definition is `specs/Lex.antt`, to be held against `docs/SQL.md`, Tokens.
+#![tactic(auto)]
+
+mod lexer;
+mod placed;
+
+pub use lexer::Lexer;
+pub use placed::Placed;
