@@ -1,2 +1,4 @@
 pub mod Plain
 pub mod Numbers
+pub mod Fronts
+pub mod Cut
