@@ -2,10 +2,15 @@
 #![tactic(auto)]
 
 mod front;
+mod laws;
 mod lexer;
 mod placed;
 mod scan;
 mod words;
 
+pub use laws::{at_most_one_token_a_byte, tokens_in_order};
 pub use lexer::Lexer;
 pub use placed::Placed;
+
+#[cfg(test)]
+mod tests;
