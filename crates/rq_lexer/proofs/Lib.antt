@@ -2,3 +2,4 @@ pub mod Plain
 pub mod Numbers
 pub mod Fronts
 pub mod Cut
+pub mod Spelled
