@@ -15,7 +15,7 @@ use Rattle.rq_grammar.specs.declared.token.Token.TheVariants as t
 use Rattle.rq_grammar.specs.Words.{Text, Tokens}
 use Rattle.rq_grammar.specs.Spelling.{begins_word, is_in_word, is_bare, word_of}
 use Rattle.rq_lexer.specs.declared.placed.Placed.{Placed}
-use Rattle.rq_lexer.specs.Lex.{Front, is_blank, blank_len, is_in_numeral, is_integer, number_of, word, parameter, numeral, closing, undoubled, up_to_closing, quoted, string, quoted_name, is_hex, bytes_of_hex, is_no_quote, blob, mark, is_x, is_sigil, front, piece_of, piece, placed, lex_from, lex}
+use Rattle.rq_lexer.specs.Lex.{Front, is_blank, blank_len, is_in_numeral, is_integer, number_of, word, parameter, numeral, closing, undoubled, up_to_closing, quoted, or_other, string, quoted_name, is_hex, bytes_of_hex, is_no_quote, blob, mark, is_x, is_sigil, front, piece_of, piece, placed, lex_from, lex}
 use Rattle.rq_lexer.specs.Spelled.{tokens_in, doubled_byte, doubled, in_quotes, hex_digit, hex_byte, bytes_of, IsSpelled, ends_before}
 use Rattle.rq_lexer.proofs.Plain.{both, left, right}
 use Rattle.rq_lexer.proofs.Cut.{past, blank_goes}
@@ -206,3 +206,146 @@ decimal_is = decimal_by_steps IsDecimal
         some = first_of_append ds ((48 + d) ∷ []) is.some;
         number = fold-append (λ n b. 10 * n + (b - 48)) 0 ds ((48 + d) ∷ []) ∙ ap (λ k. 10 * k + (48 + d - 48)) is.number ∙ e
       })
+
+-- ---- quotes
+
+same : (q : ℕ) → (q == q) ≡ true
+same q = grind (arith, nat_tests)
+
+is_same : (b q : ℕ) → (b == q) ≡ true → b ≡ q
+is_same b q h = grind (arith, nat_tests)
+
+closing_step : (q n : ℕ) (is_open : Bool) (b : ℕ) (z : Text) → (is_open && not (b == q)) ≡ false → closing q n is_open (b ∷ z) ≡ closing q (n + 1) (not is_open && b == q) z
+closing_step q n is_open b z h = ap (λ c. cond c (Some n) (closing q (n + 1) (not is_open && b == q) z)) h
+
+-- behind the last quote
+closed : (q n : ℕ) (rest : Text) → (slice_index rest 0 == q) ≡ false → closing q n true rest ≡ Some n
+closed q n [] h = refl
+closed q n (b ∷ rest) h = ap (λ c. cond (not c) (Some n) (closing q (n + 1) false rest)) h
+
+closing_quote : (q n : ℕ) (rest : Text) → (slice_index rest 0 == q) ≡ false → closing q n false (q ∷ rest) ≡ Some (n + 1)
+closing_quote q n rest h = closing_step q n false q rest refl ∙ ap (λ c. closing q (n + 1) c rest) (same q) ∙ closed q (n + 1) rest h
+
+closing_two : (q n b : ℕ) (z : Text) → (b == q) ≡ true → closing q n false (q ∷ b ∷ z) ≡ closing q (n + 1 + 1) false z
+closing_two q n b z h =
+    closing_step q n false q (b ∷ z) refl ∙ ap (λ c. closing q (n + 1) c (b ∷ z)) (same q)
+    ∙ closing_step q (n + 1) true b z (ap not h)
+
+closing_other : (q n b : ℕ) (z : Text) → (b == q) ≡ false → closing q n false (b ∷ z) ≡ closing q (n + 1) false z
+closing_other q n b z h = closing_step q n false b z refl ∙ ap (λ c. closing q (n + 1) c z) h
+
+closing_doubled : (q n : ℕ) (s rest : Text) → (slice_index rest 0 == q) ≡ false → closing q n false (doubled q s ++ q ∷ rest) ≡ Some (n + length (doubled q s) + 1)
+closing_doubled q n [] rest h = let e : n + 1 ≡ n + 0 + 1 = omega arith in closing_quote q n rest h ∙ ap Some e
+closing_doubled q n (b ∷ s) rest h = by_case (b == q) refl (λ k. closing_doubled q k s rest h)
+  where
+    by_case : (c : Bool) → (b == q) ≡ c → ((k : ℕ) → closing q k false (doubled q s ++ q ∷ rest) ≡ Some (k + length (doubled q s) + 1))
+        → closing q n false ((cond c (q ∷ b ∷ []) (b ∷ []) ++ doubled q s) ++ q ∷ rest) ≡ Some (n + length (cond c (q ∷ b ∷ []) (b ∷ []) ++ doubled q s) + 1)
+    by_case true is more =
+        let e : n + 1 + 1 + length (doubled q s) + 1 ≡ n + suc (suc (length (doubled q s))) + 1 = omega arith in
+        closing_two q n b (doubled q s ++ q ∷ rest) is ∙ more (n + 1 + 1) ∙ ap Some e
+    by_case false is more =
+        let e : n + 1 + length (doubled q s) + 1 ≡ n + suc (length (doubled q s)) + 1 = omega arith in
+        closing_other q n b (doubled q s ++ q ∷ rest) is ∙ more (n + 1) ∙ ap Some e
+
+undoubled_doubled : (q : ℕ) (s : Text) → undoubled q false (doubled q s) ≡ s
+undoubled_doubled q [] = refl
+undoubled_doubled q (b ∷ s) = by_case (b == q) refl (undoubled_doubled q s)
+  where
+    by_case : (c : Bool) → (b == q) ≡ c → undoubled q false (doubled q s) ≡ s → undoubled q false (cond c (q ∷ b ∷ []) (b ∷ []) ++ doubled q s) ≡ b ∷ s
+    by_case true is more = ap (λ c. q ∷ undoubled q c (b ∷ doubled q s)) (same q) ∙ ap (λ y. q ∷ y) more ∙ ap (λ k. k ∷ s) (sym (is_same b q is))
+    by_case false is more = ap (λ c. b ∷ undoubled q c (doubled q s)) is ∙ ap (λ y. b ∷ y) more
+
+inside_quotes : (q : ℕ) (s rest : Text) → is_text s ≡ true → (slice_index rest 0 == q) ≡ false → quoted q (doubled q s ++ q ∷ rest) ≡ (Some s, length (doubled q s) + 1)
+unfolding quoted
+inside_quotes q s rest h stops =
+    let d = doubled q s in
+    let y = d ++ q ∷ rest in
+    let one : 0 + length d + 1 ≡ length d + 1 = omega arith in
+    let front : length d + 1 - 1 ≡ length d = omega arith in
+    let inside : undoubled q false (take (length d + 1 - 1) y) ≡ s = ap (λ n. undoubled q false (take n y)) front ∙ ap (undoubled q false) (take-append_seam d (q ∷ rest)) ∙ undoubled_doubled q s in
+    ap (up_to_closing q y) (closing_doubled q 0 s rest stops ∙ ap Some one)
+    ∙ ap (λ (m : Text). (cond (is_text m) (Some m) None, length d + 1)) inside
+    ∙ ap (λ c. (cond c (Some s) None, length d + 1)) h
+
+in_quotes_before : (q : ℕ) (s rest : Text) → in_quotes q s ++ rest ≡ q ∷ (doubled q s ++ q ∷ rest)
+in_quotes_before q s rest = ap (λ y. q ∷ y) (append_assoc (doubled q s) (q ∷ []) rest)
+
+length_quotes : (q : ℕ) (s : Text) → length (in_quotes q s) ≡ length (doubled q s) + 1 + 1
+length_quotes q s = let l = length-append (doubled q s) (q ∷ []) in let e : suc (length (doubled q s ++ q ∷ [])) ≡ length (doubled q s) + 1 + 1 = omega arith in e
+
+string_piece : (s rest : Text) → is_text s ≡ true → (slice_index rest 0 == 39) ≡ false → piece (in_quotes 39 s ++ rest) ≡ (Some (t.String s), length (in_quotes 39 s))
+unfolding front blank_len string
+string_piece s rest h stops =
+    let y = doubled 39 s ++ 39 ∷ rest in
+    let made : string (39 ∷ y) ≡ (t.String s, length (doubled 39 s) + 1 + 1) = ap (λ (r : Option Text × ℕ). (or_other t.String r.0, r.1 + 1)) (inside_quotes 39 s rest h stops) in
+    ap piece (in_quotes_before 39 s rest) ∙ piece_is (39 ∷ y) (t.String s) (length (doubled 39 s) + 1 + 1) refl made ∙ ap (λ n. (Some (t.String s), n)) (sym (length_quotes 39 s))
+
+quoted_piece : (s rest : Text) → is_text s ≡ true → (slice_index rest 0 == 34) ≡ false → piece (in_quotes 34 s ++ rest) ≡ (Some (t.Quoted s), length (in_quotes 34 s))
+unfolding front blank_len quoted_name
+quoted_piece s rest h stops =
+    let y = doubled 34 s ++ 34 ∷ rest in
+    let made : quoted_name (34 ∷ y) ≡ (t.Quoted s, length (doubled 34 s) + 1 + 1) = ap (λ (r : Option Text × ℕ). (or_other t.Quoted r.0, r.1 + 1)) (inside_quotes 34 s rest h stops) in
+    ap piece (in_quotes_before 34 s rest) ∙ piece_is (34 ∷ y) (t.Quoted s) (length (doubled 34 s) + 1 + 1) refl made ∙ ap (λ n. (Some (t.Quoted s), n)) (sym (length_quotes 34 s))
+
+-- ---- blobs
+
+hex_in_hex : (d : ℕ) → d < 16 → is_ascii_hexdigit (hex_digit d) ≡ true
+hex_in_hex d h = grind (arith, nat_tests)
+
+hex_no_quote : (d : ℕ) → d < 16 → is_no_quote (hex_digit d) ≡ true
+hex_no_quote d h = grind (arith, nat_tests)
+
+hex_value : (d : ℕ) → d < 16 → digit_value (hex_digit d) ≡ d
+hex_value d h = grind (arith, nat_tests)
+
+high : (b : ℕ) → nat_lt b 256 ≡ true → b / 16 < 16
+high b h = let small : b < 256 = grind (arith, nat_tests) in omega arith
+
+low : (b : ℕ) → b % 16 < 16
+low b = omega arith
+
+all_hex : (p : ℕ → Bool) → ((d : ℕ) → d < 16 → p (hex_digit d) ≡ true) → (bytes : Text) → list_all (λ b. nat_lt b 256) bytes ≡ true → list_all p (flat_map hex_byte bytes) ≡ true
+all_hex p one [] h = refl
+all_hex p one (b ∷ bytes) h =
+    both (p (hex_digit (b / 16))) (p (hex_digit (b % 16)) && list_all p (flat_map hex_byte bytes)) (one (b / 16) (high b (left (nat_lt b 256) (list_all (λ b. nat_lt b 256) bytes) h)))
+    (both (p (hex_digit (b % 16))) (list_all p (flat_map hex_byte bytes)) (one (b % 16) (low b)) (all_hex p one bytes (right (nat_lt b 256) (list_all (λ b. nat_lt b 256) bytes) h)))
+
+even : (bytes : Text) → length (flat_map hex_byte bytes) % 2 ≡ 0
+even [] = refl
+even (b ∷ bytes) = let e = even bytes in omega arith
+
+hex_spelled : (bytes : Text) → list_all (λ b. nat_lt b 256) bytes ≡ true → is_hex (flat_map hex_byte bytes) ≡ true
+unfolding is_hex
+hex_spelled bytes h = both (list_all is_ascii_hexdigit (flat_map hex_byte bytes)) (length (flat_map hex_byte bytes) % 2 == 0) (all_hex is_ascii_hexdigit hex_in_hex bytes h) (ap (λ n. n == 0) (even bytes))
+
+whole : (b : ℕ) → 16 * (b / 16) + b % 16 ≡ b
+whole b = omega arith
+
+hex_read : (bytes : Text) → list_all (λ b. nat_lt b 256) bytes ≡ true → bytes_of_hex (flat_map hex_byte bytes) ≡ bytes
+hex_read [] h = refl
+hex_read (b ∷ bytes) h =
+    let x = hex_value (b / 16) (high b (left (nat_lt b 256) (list_all (λ b. nat_lt b 256) bytes) h)) in
+    let y = hex_value (b % 16) (low b) in
+    ap (λ n. (16 * n + digit_value (hex_digit (b % 16))) ∷ bytes_of_hex (flat_map hex_byte bytes)) x ∙ ap (λ n. (16 * (b / 16) + n) ∷ bytes_of_hex (flat_map hex_byte bytes)) y ∙ ap (λ n. n ∷ bytes_of_hex (flat_map hex_byte bytes)) (whole b)
+    ∙ ap (λ z. b ∷ z) (hex_read bytes (right (nat_lt b 256) (list_all (λ b. nat_lt b 256) bytes) h))
+
+less : (n m : ℕ) → n < m → nat_lt n m ≡ true
+less n m h = grind (arith, nat_tests)
+
+blob_piece : (bytes rest : Text) → list_all (λ b. nat_lt b 256) bytes ≡ true → piece (bytes_of (t.Blob bytes) ++ rest) ≡ (Some (t.Blob bytes), length (bytes_of (t.Blob bytes)))
+unfolding front blank_len blob
+blob_piece bytes rest h =
+    let hex = flat_map hex_byte bytes in
+    let y = hex ++ 39 ∷ rest in
+    let n = run_is is_no_quote hex (39 ∷ rest) (all_hex is_no_quote hex_no_quote bytes h) refl in
+    let l = length-append hex (39 ∷ rest) in
+    let l' = length-append hex (39 ∷ []) in
+    let short : length hex < length y = omega arith in
+    let e : length hex + 3 ≡ suc (suc (length (hex ++ 39 ∷ []))) = omega arith in
+    let made : blob (88 ∷ 39 ∷ y) ≡ (t.Blob bytes, length hex + 3) =
+        ap (λ k. cond (nat_lt k (length y)) (cond (is_hex (take k y)) (t.Blob (bytes_of_hex (take k y))) t.Other, k + 3) (t.Other, suc (suc (length y)))) n
+        ∙ ap (λ c. cond c (cond (is_hex (take (length hex) y)) (t.Blob (bytes_of_hex (take (length hex) y))) t.Other, length hex + 3) (t.Other, suc (suc (length y)))) (less (length hex) (length y) short)
+        ∙ ap (λ m. (cond (is_hex m) (t.Blob (bytes_of_hex m)) t.Other, length hex + 3)) (take-append_seam hex (39 ∷ rest))
+        ∙ ap (λ c. (cond c (t.Blob (bytes_of_hex hex)) t.Other, length hex + 3)) (hex_spelled bytes h)
+        ∙ ap (λ m. (t.Blob m, length hex + 3)) (hex_read bytes h) in
+    ap (λ z. piece (88 ∷ 39 ∷ z)) (append_assoc hex (39 ∷ []) rest) ∙ piece_is (88 ∷ 39 ∷ y) (t.Blob bytes) (length hex + 3) refl made ∙ ap (λ k. (Some (t.Blob bytes), k)) e
