@@ -15,7 +15,7 @@ use Rattle.rq_grammar.specs.declared.token.Token.TheVariants as t
 use Rattle.rq_grammar.specs.Words.{Text, Tokens}
 use Rattle.rq_grammar.specs.Spelling.{begins_word, is_in_word, is_bare, word_of}
 use Rattle.rq_lexer.specs.declared.placed.Placed.{Placed}
-use Rattle.rq_lexer.specs.Lex.{Front, is_blank, blank_len, is_in_numeral, is_integer, number_of, word, parameter, numeral, closing, undoubled, up_to_closing, quoted, or_other, string, quoted_name, is_hex, bytes_of_hex, is_no_quote, blob, mark, is_x, is_sigil, front, piece_of, piece, placed, lex_from, lex}
+use Rattle.rq_lexer.specs.Lex.{Front, is_blank, blank_len, is_in_numeral, is_integer, number_of, word, parameter, numeral, closing, undoubled, up_to_closing, quoted, or_other, string, quoted_name, is_hex, bytes_of_hex, is_no_quote, blob, or_short, mark, is_in_line, behind_comment, is_x, is_sigil, front, piece_of, piece, placed, lex_from, lex}
 use Rattle.rq_lexer.specs.Spelled.{tokens_in, doubled_byte, doubled, in_quotes, hex_digit, hex_byte, bytes_of, IsSpelled, ends_before}
 use Rattle.rq_lexer.proofs.Plain.{both, left, right}
 use Rattle.rq_lexer.proofs.Cut.{past, blank_goes}
@@ -146,9 +146,9 @@ parameter_piece (b ∷ n) rest bare stops =
     let e : suc (length n) + 1 ≡ suc (suc (length n)) = omega arith in
     piece_is (58 ∷ b ∷ (n ++ rest)) (t.Parameter (Some (b ∷ n))) (suc (suc (length n))) refl
     (ap (λ c. cond c (parameter (58 ∷ b ∷ (n ++ rest))) (mark (58 ∷ b ∷ (n ++ rest)))) (begins b n bare)
-     ∙ ap (λ k. (t.Parameter (Some (take k (b ∷ (n ++ rest)))), k + 1)) (run_is is_in_word (b ∷ n) rest (all_in_word (b ∷ n) bare) stops)
-     ∙ ap (λ m. (t.Parameter (Some m), suc (length n) + 1)) (take-append_seam (b ∷ n) rest)
-     ∙ ap (λ k. (t.Parameter (Some (b ∷ n)), k)) e)
+    ∙ ap (λ k. (t.Parameter (Some (take k (b ∷ (n ++ rest)))), k + 1)) (run_is is_in_word (b ∷ n) rest (all_in_word (b ∷ n) bare) stops)
+    ∙ ap (λ m. (t.Parameter (Some m), suc (length n) + 1)) (take-append_seam (b ∷ n) rest)
+    ∙ ap (λ k. (t.Parameter (Some (b ∷ n)), k)) e)
 
 -- ---- numerals
 
@@ -198,14 +198,14 @@ decimal_is : (n : ℕ) → n < 2 ^ 64 → IsDecimal n (decimal n)
 decimal_is = decimal_by_steps IsDecimal
     (λ n h. let e : 10 * 0 + (48 + n - 48) ≡ n = omega arith in record { digits = both (is_ascii_digit (48 + n)) true (last_digit n h) refl; some = last_digit n h; number = e })
     (λ n ds h is.
-      let d = n % 10 in
-      let small : d < 10 = omega arith in
-      let e : 10 * (n / 10) + (48 + d - 48) ≡ n = omega arith in
-      record {
-        digits = list_all-append is_ascii_digit ds ((48 + d) ∷ []) ∙ both (list_all is_ascii_digit ds) (list_all is_ascii_digit ((48 + d) ∷ [])) is.digits (both (is_ascii_digit (48 + d)) true (last_digit d small) refl);
-        some = first_of_append ds ((48 + d) ∷ []) is.some;
-        number = fold-append (λ n b. 10 * n + (b - 48)) 0 ds ((48 + d) ∷ []) ∙ ap (λ k. 10 * k + (48 + d - 48)) is.number ∙ e
-      })
+    let d = n % 10 in
+    let small : d < 10 = omega arith in
+    let e : 10 * (n / 10) + (48 + d - 48) ≡ n = omega arith in
+    record {
+      digits = list_all-append is_ascii_digit ds ((48 + d) ∷ []) ∙ both (list_all is_ascii_digit ds) (list_all is_ascii_digit ((48 + d) ∷ [])) is.digits (both (is_ascii_digit (48 + d)) true (last_digit d small) refl);
+      some = first_of_append ds ((48 + d) ∷ []) is.some;
+      number = fold-append (λ n b. 10 * n + (b - 48)) 0 ds ((48 + d) ∷ []) ∙ ap (λ k. 10 * k + (48 + d - 48)) is.number ∙ e;
+    })
 
 -- ---- quotes
 
@@ -332,20 +332,149 @@ hex_read (b ∷ bytes) h =
 less : (n m : ℕ) → n < m → nat_lt n m ≡ true
 less n m h = grind (arith, nat_tests)
 
-blob_piece : (bytes rest : Text) → list_all (λ b. nat_lt b 256) bytes ≡ true → piece (bytes_of (t.Blob bytes) ++ rest) ≡ (Some (t.Blob bytes), length (bytes_of (t.Blob bytes)))
-unfolding front blank_len blob
-blob_piece bytes rest h =
-    let hex = flat_map hex_byte bytes in
+blob_front : (hex bytes rest : Text) → list_all is_no_quote hex ≡ true → is_hex hex ≡ true → bytes_of_hex hex ≡ bytes → blob (88 ∷ 39 ∷ (hex ++ 39 ∷ rest)) ≡ (t.Blob bytes, length hex + 3)
+unfolding blob
+blob_front hex bytes rest free h e =
     let y = hex ++ 39 ∷ rest in
-    let n = run_is is_no_quote hex (39 ∷ rest) (all_hex is_no_quote hex_no_quote bytes h) refl in
+    let n = run_is is_no_quote hex (39 ∷ rest) free refl in
     let l = length-append hex (39 ∷ rest) in
-    let l' = length-append hex (39 ∷ []) in
     let short : length hex < length y = omega arith in
-    let e : length hex + 3 ≡ suc (suc (length (hex ++ 39 ∷ []))) = omega arith in
-    let made : blob (88 ∷ 39 ∷ y) ≡ (t.Blob bytes, length hex + 3) =
-        ap (λ k. cond (nat_lt k (length y)) (cond (is_hex (take k y)) (t.Blob (bytes_of_hex (take k y))) t.Other, k + 3) (t.Other, suc (suc (length y)))) n
-        ∙ ap (λ c. cond c (cond (is_hex (take (length hex) y)) (t.Blob (bytes_of_hex (take (length hex) y))) t.Other, length hex + 3) (t.Other, suc (suc (length y)))) (less (length hex) (length y) short)
-        ∙ ap (λ m. (cond (is_hex m) (t.Blob (bytes_of_hex m)) t.Other, length hex + 3)) (take-append_seam hex (39 ∷ rest))
-        ∙ ap (λ c. (cond c (t.Blob (bytes_of_hex hex)) t.Other, length hex + 3)) (hex_spelled bytes h)
-        ∙ ap (λ m. (t.Blob m, length hex + 3)) (hex_read bytes h) in
-    ap (λ z. piece (88 ∷ 39 ∷ z)) (append_assoc hex (39 ∷ []) rest) ∙ piece_is (88 ∷ 39 ∷ y) (t.Blob bytes) (length hex + 3) refl made ∙ ap (λ k. (Some (t.Blob bytes), k)) e
+    ap (λ k. cond (nat_lt k (length (hex ++ 39 ∷ rest))) (cond (is_hex (take k (hex ++ 39 ∷ rest))) (t.Blob (bytes_of_hex (take k (hex ++ 39 ∷ rest)))) t.Other, k + 3) (t.Other, suc (suc (length (hex ++ 39 ∷ rest))))) n
+    ∙ ap (λ c. cond c (cond (is_hex (take (length hex) (hex ++ 39 ∷ rest))) (t.Blob (bytes_of_hex (take (length hex) (hex ++ 39 ∷ rest)))) t.Other, length hex + 3) (t.Other, suc (suc (length (hex ++ 39 ∷ rest))))) (less (length hex) (length y) short)
+    ∙ ap (λ m. (cond (is_hex m) (t.Blob (bytes_of_hex m)) t.Other, length hex + 3)) (take-append_seam hex (39 ∷ rest))
+    ∙ ap (λ c. (cond c (t.Blob (bytes_of_hex hex)) t.Other, length hex + 3)) h
+    ∙ ap (λ m. (t.Blob m, length hex + 3)) e
+
+blob_piece : (bytes rest : Text) → list_all (λ b. nat_lt b 256) bytes ≡ true → piece (bytes_of (t.Blob bytes) ++ rest) ≡ (Some (t.Blob bytes), length (bytes_of (t.Blob bytes)))
+unfolding front blank_len
+blob_piece bytes rest h =
+    let l = length-append (flat_map hex_byte bytes) (39 ∷ []) in
+    let e : length (flat_map hex_byte bytes) + 3 ≡ suc (suc (length (flat_map hex_byte bytes ++ 39 ∷ []))) = omega arith in
+    let made = blob_front (flat_map hex_byte bytes) bytes rest (all_hex is_no_quote hex_no_quote bytes h) (hex_spelled bytes h) (hex_read bytes h) in
+    ap (λ z. piece (88 ∷ 39 ∷ z)) (append_assoc (flat_map hex_byte bytes) (39 ∷ []) rest)
+    ∙ piece_is (88 ∷ 39 ∷ (flat_map hex_byte bytes ++ 39 ∷ rest)) (t.Blob bytes) (length (flat_map hex_byte bytes) + 3) refl made
+    ∙ ap (λ k. (Some (t.Blob bytes), k)) e
+
+-- ---- marks
+
+equal_piece : (rest : Text) → (slice_index rest 0 == 61) ≡ false → piece (61 ∷ rest) ≡ (Some t.Equal, 1)
+unfolding front blank_len mark
+equal_piece rest h = piece_is (61 ∷ rest) t.Equal 1 refl (ap (λ c. or_short (61 ∷ rest) (cond (c && true) (Some t.EqualEqual) None)) h)
+
+less_piece : (rest : Text) → (slice_index rest 0 == 61) ≡ false → (slice_index rest 0 == 62) ≡ false → piece (60 ∷ rest) ≡ (Some t.Less, 1)
+unfolding front blank_len mark
+less_piece rest h k =
+    piece_is (60 ∷ rest) t.Less 1 refl
+    (ap (λ c. or_short (60 ∷ rest) (cond (c && true) (Some t.LessGreater) (cond (slice_index rest 0 == 61 && true) (Some t.LessEqual) None))) k ∙ ap (λ c. or_short (60 ∷ rest) (cond (c && true) (Some t.LessEqual) None)) h)
+
+greater_piece : (rest : Text) → (slice_index rest 0 == 61) ≡ false → piece (62 ∷ rest) ≡ (Some t.Greater, 1)
+unfolding front blank_len mark
+greater_piece rest h = piece_is (62 ∷ rest) t.Greater 1 refl (ap (λ c. or_short (62 ∷ rest) (cond (c && true) (Some t.GreaterEqual) None)) h)
+
+minus_piece : (rest : Text) → (slice_index rest 0 == 45) ≡ false → piece (45 ∷ rest) ≡ (Some t.Minus, 1)
+unfolding front blank_len mark
+minus_piece rest h = piece_is (45 ∷ rest) t.Minus 1 (ap (λ c. cond c (prefix_len is_in_line (45 ∷ rest)) 0) h) refl
+
+slash_piece : (rest : Text) → (slice_index rest 0 == 42) ≡ false → piece (47 ∷ rest) ≡ (Some t.Slash, 1)
+unfolding front blank_len mark
+slash_piece rest h = piece_is (47 ∷ rest) t.Slash 1 (ap (λ c. cond c (behind_comment 2 false (drop 1 rest)) 0) h) refl
+
+-- ---- every token
+
+wider : (z : Text) → list_all is_ascii_digit z ≡ true → list_all is_in_numeral z ≡ true
+wider [] h = refl
+wider (b ∷ z) h = both (is_in_numeral b) (list_all is_in_numeral z) (one b (left (is_ascii_digit b) (list_all is_ascii_digit z) h)) (wider z (right (is_ascii_digit b) (list_all is_ascii_digit z) h))
+  where
+    one : (b : ℕ) → is_ascii_digit b ≡ true → is_in_numeral b ≡ true
+    one b h = grind (arith, nat_tests)
+
+is_integer_decimal : (n : ℕ) (s : Text) → n ≤ 2 ^ 63 → IsDecimal n s → is_integer s ≡ true
+unfolding is_integer
+is_integer_decimal n s h is = both (list_all is_ascii_digit s) (nat_le (number_of s) (2 ^ 63)) is.digits (ap (λ k. nat_le k (2 ^ 63)) is.number ∙ most n h)
+  where
+    most : (n : ℕ) → n ≤ 2 ^ 63 → nat_le n (2 ^ 63) ≡ true
+    most n h = grind (arith, nat_tests)
+
+number_piece : (n : ℕ) (rest : Text) → n ≤ 2 ^ 63 → is_in_numeral (slice_index rest 0) ≡ false → piece (decimal n ++ rest) ≡ (Some (t.Numeral n), length (decimal n))
+number_piece n rest h stops =
+    let small : n < 2 ^ 64 = omega arith in
+    let is = decimal_is n small in
+    let chosen : cond (is_integer (decimal n)) (t.Numeral (number_of (decimal n))) (t.OtherNumeral (decimal n)) ≡ t.Numeral n =
+    ap (λ c. cond c (t.Numeral (number_of (decimal n))) (t.OtherNumeral (decimal n))) (is_integer_decimal n (decimal n) h is) ∙ ap t.Numeral is.number in
+    numeral_piece (decimal n) rest (t.Numeral n) (decimal_nonempty n small) is.some (wider (decimal n) is.digits) stops chosen
+
+some_digit : (n : Text) → is_ascii_digit (slice_index n 0) ≡ true → 1 ≤ length n
+some_digit [] h = absurd (cc)
+some_digit (b ∷ n) h = omega arith
+
+pub some_bytes : (u : Token) → IsSpelled u → 1 ≤ length (bytes_of u)
+some_bytes (t.Word n v) h = some_bare n h.0
+some_bytes (t.Quoted n) h = omega arith
+some_bytes (t.String n) h = omega arith
+some_bytes (t.Blob bytes) h = omega arith
+some_bytes (t.Numeral n) h = let small : n < 2 ^ 64 = omega arith in decimal_nonempty n small
+some_bytes (t.OtherNumeral n) h = some_digit n h.0
+some_bytes (t.Parameter None) h = omega arith
+some_bytes (t.Parameter (Some n)) h = omega arith
+some_bytes t.Equal h = omega arith
+some_bytes t.EqualEqual h = omega arith
+some_bytes t.LessGreater h = omega arith
+some_bytes t.BangEqual h = omega arith
+some_bytes t.Less h = omega arith
+some_bytes t.LessEqual h = omega arith
+some_bytes t.Greater h = omega arith
+some_bytes t.GreaterEqual h = omega arith
+some_bytes t.Plus h = omega arith
+some_bytes t.Minus h = omega arith
+some_bytes t.Star h = omega arith
+some_bytes t.Slash h = omega arith
+some_bytes t.Percent h = omega arith
+some_bytes t.BarBar h = omega arith
+some_bytes t.Dot h = omega arith
+some_bytes t.Comma h = omega arith
+some_bytes t.Open h = omega arith
+some_bytes t.Close h = omega arith
+some_bytes t.Semi h = omega arith
+some_bytes t.Other h = absurd h
+
+piece_spelled : (u : Token) (rest : Text) → IsSpelled u → ends_before u (slice_index rest 0) ≡ true → piece (bytes_of u ++ rest) ≡ (Some u, length (bytes_of u))
+unfolding front blank_len mark
+piece_spelled (t.Word n v) rest h stops =
+    word_piece n rest h.0 (false_from_not (is_in_word (slice_index rest 0)) (left (not (is_in_word (slice_index rest 0))) (not (slice_index rest 0 == 39)) stops)) (false_from_not (slice_index rest 0 == 39) (right (not (is_in_word (slice_index rest 0))) (not (slice_index rest 0 == 39)) stops))
+    ∙ ap (λ w. (Some (t.Word n w), length n)) (sym h.1)
+piece_spelled (t.Quoted n) rest h stops = quoted_piece n rest h (false_from_not (slice_index rest 0 == 34) stops)
+piece_spelled (t.String n) rest h stops = string_piece n rest h (false_from_not (slice_index rest 0 == 39) stops)
+piece_spelled (t.Blob bytes) rest h stops = blob_piece bytes rest h
+piece_spelled (t.Numeral n) rest h stops = number_piece n rest h (false_from_not (is_in_numeral (slice_index rest 0)) stops)
+piece_spelled (t.OtherNumeral n) rest h stops =
+    numeral_piece n rest (t.OtherNumeral n) (some_digit n h.0) h.0 h.1 (false_from_not (is_in_numeral (slice_index rest 0)) stops) (ap (λ c. cond c (t.Numeral (number_of n)) (t.OtherNumeral n)) h.2)
+piece_spelled (t.Parameter None) rest h stops = piece_is (63 ∷ rest) (t.Parameter None) 1 refl refl
+piece_spelled (t.Parameter (Some n)) rest h stops = parameter_piece n rest h (false_from_not (is_in_word (slice_index rest 0)) stops)
+piece_spelled t.Equal rest h stops = equal_piece rest (false_from_not (slice_index rest 0 == 61) stops)
+piece_spelled t.EqualEqual rest h stops = piece_is (61 ∷ 61 ∷ rest) t.EqualEqual 2 refl refl
+piece_spelled t.LessGreater rest h stops = piece_is (60 ∷ 62 ∷ rest) t.LessGreater 2 refl refl
+piece_spelled t.BangEqual rest h stops = piece_is (33 ∷ 61 ∷ rest) t.BangEqual 2 refl refl
+piece_spelled t.Less rest h stops =
+    less_piece rest (false_from_not (slice_index rest 0 == 61) (left (not (slice_index rest 0 == 61)) (not (slice_index rest 0 == 62)) stops)) (false_from_not (slice_index rest 0 == 62) (right (not (slice_index rest 0 == 61)) (not (slice_index rest 0 == 62)) stops))
+piece_spelled t.LessEqual rest h stops = piece_is (60 ∷ 61 ∷ rest) t.LessEqual 2 refl refl
+piece_spelled t.Greater rest h stops = greater_piece rest (false_from_not (slice_index rest 0 == 61) stops)
+piece_spelled t.GreaterEqual rest h stops = piece_is (62 ∷ 61 ∷ rest) t.GreaterEqual 2 refl refl
+piece_spelled t.Plus rest h stops = piece_is (43 ∷ rest) t.Plus 1 refl refl
+piece_spelled t.Minus rest h stops = minus_piece rest (false_from_not (slice_index rest 0 == 45) stops)
+piece_spelled t.Star rest h stops = piece_is (42 ∷ rest) t.Star 1 refl refl
+piece_spelled t.Slash rest h stops = slash_piece rest (false_from_not (slice_index rest 0 == 42) stops)
+piece_spelled t.Percent rest h stops = piece_is (37 ∷ rest) t.Percent 1 refl refl
+piece_spelled t.BarBar rest h stops = piece_is (124 ∷ 124 ∷ rest) t.BarBar 2 refl refl
+piece_spelled t.Dot rest h stops = piece_is (46 ∷ rest) t.Dot 1 refl refl
+piece_spelled t.Comma rest h stops = piece_is (44 ∷ rest) t.Comma 1 refl refl
+piece_spelled t.Open rest h stops = piece_is (40 ∷ rest) t.Open 1 refl refl
+piece_spelled t.Close rest h stops = piece_is (41 ∷ rest) t.Close 1 refl refl
+piece_spelled t.Semi rest h stops = piece_is (59 ∷ rest) t.Semi 1 refl refl
+piece_spelled t.Other rest h stops = absurd h
+
+pub spelled : (u : Token) (rest : Text) → IsSpelled u → ends_before u (slice_index rest 0) ≡ true → tokens_in (bytes_of u ++ rest) ≡ u ∷ tokens_in rest
+spelled u rest h stops = cut_off (bytes_of u) rest u (some_bytes u h) (piece_spelled u rest h stops)
+
+pub no_tokens : tokens_in [] ≡ []
+unfolding lex lex_from
+no_tokens = refl
