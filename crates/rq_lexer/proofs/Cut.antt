@@ -1,5 +1,5 @@
 -- How the tokens of a text follow from what stands in front.
-use Rattle.std.proofs.Common.{◌≡◌, ℕ, zero, suc, ◌+◌, ◌-◌, ◌<◌, ◌≤◌, Bool, true, false, ◌&&◌, cond, List, [], ◌∷◌, length, drop, refl, sym, ap, subst, ◌∙◌, arith, Option, Some, None, length-drop}
+use Rattle.std.proofs.Common.{◌≡◌, ℕ, zero, suc, ◌+◌, ◌-◌, ◌<◌, ◌≤◌, Bool, true, false, ◌&&◌, cond, List, [], ◌∷◌, length, drop, refl, sym, ap, subst, ◌∙◌, arith, None, length-drop}
 use Rattle.std.specs.Prelude.{slice_index, ◌==◌}
 use Rattle.std.specs.List.{prefix_len}
 use Rattle.std.proofs.lemmas.Bool.Decides.{nat_tests}
@@ -10,7 +10,7 @@ use Rattle.rq_grammar.specs.Words.{Text}
 use Rattle.rq_lexer.specs.declared.placed.Placed.{Placed}
 use Rattle.rq_lexer.specs.Lex.{Front, is_blank, is_in_line, behind_comment, blank_len, front, piece_of, piece, placed, lex_from, lex}
 use Rattle.rq_lexer.specs.Facts.{IsCut, InOrder}
-use Rattle.rq_lexer.proofs.Fronts.{IsFront, front_is}
+use Rattle.rq_lexer.proofs.Fronts.{front_is}
 
 -- ---- a blank or a comment is within its text
 
@@ -173,3 +173,9 @@ takes_within text behind rest at n u len le d le' e some f =
     let is = front_is rest some in
     let within : len ≤ length rest = subst (λ (p : Front). p.1 ≤ length rest) (sym f) is.within in
     omega (arith, ap length d, ap length e, length-drop at text, length-drop n behind)
+
+pub taken : (rest : Text) (start : ℕ) (u : Token) (len : ℕ) → 1 ≤ length rest → (u, len) ≡ front rest → (start < start + len) × IsCut u
+taken rest start u len some f =
+    let is = front_is rest some in
+    let moves : 1 ≤ len = subst (λ (p : Front). 1 ≤ p.1) (sym f) is.some in
+    (omega arith, subst (λ (p : Front). IsCut p.0) (sym f) is.cut)

@@ -1,9 +1,8 @@
 -- Each token in front of a text is some of its bytes, and is as `IsCut` says.
-use Rattle.std.proofs.Common.{Bool, true, false, ◌≡◌, ℕ, suc, ◌+◌, ◌-◌, ◌*◌, ◌<◌, ◌≤◌, ◌^◌, ◌&&◌, ◌||◌, not, cond, nat_lt, nat_le, nat_eq, List, [], ◌∷◌, take, drop, length, refl, ap, subst, ◌∙◌, arith, Option, Some, None, length-drop}
+use Rattle.std.proofs.Common.{Bool, true, false, ◌≡◌, ℕ, suc, ◌+◌, ◌-◌, ◌*◌, ◌%◌, ◌<◌, ◌≤◌, ◌^◌, ◌&&◌, not, cond, nat_lt, nat_le, [], ◌∷◌, take, drop, length, refl, ap, subst, ◌∙◌, arith, Option, Some, None, length-drop}
 use Rattle.std.specs.Prelude.{slice_index, ◌==◌}
-use Rattle.std.specs.Char.{is_ascii_digit, is_ascii_alphabetic}
+use Rattle.std.specs.Char.{is_ascii_digit, is_ascii_hexdigit, digit_value}
 use Rattle.std.specs.List.{list_all, prefix_len}
-use Rattle.std.specs.Str.{is_utf8}
 use Rattle.std.proofs.lemmas.Bool.Decides.{nat_tests}
 use Rattle.std.proofs.lemmas.Grind.{common_steps}
 use Rattle.std.proofs.lemmas.List.Sums.{prefix_len-le-length}
@@ -11,8 +10,7 @@ use Rattle.rq_values.specs.Text.{is_text}
 use Rattle.rq_grammar.specs.declared.token.Token.{Token}
 use Rattle.rq_grammar.specs.declared.token.Token.TheVariants as t
 use Rattle.rq_grammar.specs.Words.{Text}
-use Rattle.rq_grammar.specs.Spelling.{begins_word, is_in_word, is_bare, word_of}
-use Rattle.rq_lexer.specs.Lex as spec
+use Rattle.rq_grammar.specs.Spelling.{begins_word, is_in_word, is_bare}
 use Rattle.rq_lexer.specs.Lex.{Front, Marks, is_in_numeral, is_integer, number_of, word, parameter, numeral, closing, undoubled, up_to_closing, quoted, or_other, string, quoted_name, is_hex, bytes_of_hex, is_no_quote, blob, mark_among, stands_at, long_marks, short_marks, char_len, or_char, or_short, mark, is_x, is_sigil, front}
 use Rattle.rq_lexer.specs.Facts.{IsCut}
 use Rattle.rq_lexer.proofs.Plain.{both, left, right, run_passes}
@@ -58,8 +56,15 @@ parameter_is (a ∷ b ∷ z) some h =
     let within = prefix_len-le-length is_in_word (b ∷ z) in
     record { some = omega arith; within = omega arith; cut = bare_run b z h }
 
+at_most : (n : ℕ) → nat_le n (2 ^ 63) ≡ true → n ≤ 2 ^ 63
+at_most n h = grind (arith, nat_tests)
+
+integer_most : (run : Text) → is_integer run ≡ true → number_of run ≤ 2 ^ 63
+unfolding is_integer
+integer_most run h = at_most (number_of run) (right (list_all is_ascii_digit run) (nat_le (number_of run) (2 ^ 63)) h)
+
 numeral_is : (z : Text) → 1 ≤ length z → is_ascii_digit (slice_index z 0) ≡ true → IsFront z (numeral z)
-unfolding numeral is_integer
+unfolding numeral
 numeral_is [] some h = absurd (omega arith)
 numeral_is (b ∷ z) some h =
     let more = run_more is_in_numeral b z (in_numeral b h) in
@@ -67,11 +72,9 @@ numeral_is (b ∷ z) some h =
     record {
       some = omega arith;
       within = prefix_len-le-length is_in_numeral (b ∷ z);
-      cut = by_token (is_integer run) (t.Numeral (number_of run)) (t.OtherNumeral run) (λ is. at_most (number_of run) (right (list_all is_ascii_digit run) (nat_le (number_of run) (2 ^ 63)) is)) (λ is. tt);
+      cut = by_token (is_integer run) (t.Numeral (number_of run)) (t.OtherNumeral run) (λ is. integer_most run is)
+          (λ is. (ap (λ n. is_ascii_digit (slice_index (take n (b ∷ z)) 0)) more ∙ h, run_passes is_in_numeral (b ∷ z), is));
     }
-  where
-    at_most : (n : ℕ) → nat_le n (2 ^ 63) ≡ true → n ≤ 2 ^ 63
-    at_most n h = grind (arith, nat_tests)
 
 closing_step : (q n : ℕ) (is_open : Bool) (b : ℕ) (z : Text) (m : ℕ) → closing q n is_open (b ∷ z) ≡ Some m → (closing q (n + 1) (not is_open && b == q) z ≡ Some m → m ≤ n + 1 + length z) → m ≤ n + suc (length z)
 closing_step q n is_open b z m h more = by_case (is_open && not (b == q)) refl
@@ -125,6 +128,28 @@ quoted_name_is (b ∷ z) some =
     let q = quoted_is 34 z in
     record { some = omega arith; within = omega (arith, q.within); cut = or_other_is t.Quoted (quoted 34 z).0 q.text }
 
+hex_below : (d : ℕ) → is_ascii_hexdigit d ≡ true → digit_value d < 16
+hex_below d h = grind (arith, nat_tests)
+
+byte_below : (a b : ℕ) → a < 16 → b < 16 → nat_lt (16 * a + b) 256 ≡ true
+byte_below a b h k = let small : 16 * a + b < 256 = omega arith in less (16 * a + b) small
+  where
+    less : (n : ℕ) → n < 256 → nat_lt n 256 ≡ true
+    less n h = grind (arith, nat_tests)
+
+hex_bytes_below : (z : Text) → list_all is_ascii_hexdigit z ≡ true → list_all (λ b. nat_lt b 256) (bytes_of_hex z) ≡ true
+hex_bytes_below [] h = refl
+hex_bytes_below (a ∷ []) h = refl
+hex_bytes_below (a ∷ b ∷ z) h =
+    let behind = right (is_ascii_hexdigit a) (list_all is_ascii_hexdigit (b ∷ z)) h in
+    both (nat_lt (16 * digit_value a + digit_value b) 256) (list_all (λ b. nat_lt b 256) (bytes_of_hex z))
+    (byte_below (digit_value a) (digit_value b) (hex_below a (left (is_ascii_hexdigit a) (list_all is_ascii_hexdigit (b ∷ z)) h)) (hex_below b (left (is_ascii_hexdigit b) (list_all is_ascii_hexdigit z) behind)))
+    (hex_bytes_below z (right (is_ascii_hexdigit b) (list_all is_ascii_hexdigit z) behind))
+
+hex_bytes : (z : Text) → is_hex z ≡ true → list_all (λ b. nat_lt b 256) (bytes_of_hex z) ≡ true
+unfolding is_hex
+hex_bytes z h = hex_bytes_below z (left (list_all is_ascii_hexdigit z) (length z % 2 == 0) h)
+
 blob_is : (z : Text) → 1 ≤ length z → IsFront z (blob z)
 unfolding blob
 blob_is z some =
@@ -134,7 +159,7 @@ blob_is z some =
     (λ h. record {
       some = omega arith;
       within = long n (length inside) (length z) h (length-drop 2 z);
-      cut = by_token (is_hex (take n inside)) (t.Blob (bytes_of_hex (take n inside))) t.Other (λ _. tt) (λ _. tt);
+      cut = by_token (is_hex (take n inside)) (t.Blob (bytes_of_hex (take n inside))) t.Other (λ is. hex_bytes (take n inside) is) (λ _. tt);
     })
     (λ h. record { some = some; within = omega arith; cut = tt })
   where

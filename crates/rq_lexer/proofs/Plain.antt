@@ -1,14 +1,12 @@
 -- Words and numerals are texts, since they are ASCII without NUL.
-use Rattle.std.proofs.Common.{Bool, true, false, ◌≡◌, ℕ, suc, ◌+◌, ◌<◌, ◌&&◌, ◌||◌, cond, nat_lt, nat_eq, List, [], ◌∷◌, take, refl, sym, ap, ◌∙◌, arith, Option, Some, None}
-use Rattle.std.specs.Prelude.{IsTrue}
-use Rattle.std.specs.Char.{is_ascii_digit, is_ascii_alphabetic}
+use Rattle.std.proofs.Common.{Bool, true, false, ◌≡◌, ℕ, suc, ◌+◌, ◌<◌, ◌&&◌, cond, nat_lt, List, [], ◌∷◌, take, refl, ap, ◌∙◌, arith, Option, Some, None}
 use Rattle.std.specs.List.{list_all, prefix_len}
 use Rattle.std.specs.Str.{is_utf8, IsAscii}
 use Rattle.std.proofs.lemmas.Bool.Decides.{nat_tests}
 use Rattle.std.proofs.lemmas.Str.{is_utf8-from_IsUtf8, IsUtf8-from_ascii}
 use Rattle.std.proofs.lemmas.Str.Ascii.{IsAscii-cons, IsAscii-nil}
 use Rattle.rq_values.specs.Text.{is_text, IsMade}
-use Rattle.rq_grammar.specs.Spelling.{begins_word, is_in_word}
+use Rattle.rq_grammar.specs.Spelling.{is_in_word}
 use Rattle.rq_lexer.specs.Lex.{is_in_numeral}
 
 pub both : (a b : Bool) → a ≡ true → b ≡ true → (a && b) ≡ true

@@ -1,9 +1,9 @@
 -- What a token spells is read as that token.
-use Rattle.std.proofs.Common.{Bool, true, false, ◌≡◌, ℕ, zero, suc, ◌+◌, ◌-◌, ◌*◌, ◌/◌, ◌%◌, ◌<◌, ◌≤◌, ◌^◌, ◌&&◌, ◌||◌, not, cond, nat_lt, nat_le, List, [], ◌∷◌, ◌++◌, map, take, drop, length, refl, sym, ap, subst, ◌∙◌, arith, Option, Some, None, append_assoc, length-append}
+use Rattle.std.proofs.Common.{Bool, true, false, ◌≡◌, ℕ, zero, suc, ◌+◌, ◌-◌, ◌*◌, ◌/◌, ◌%◌, ◌<◌, ◌≤◌, ◌^◌, ◌&&◌, not, cond, nat_lt, nat_le, List, [], ◌∷◌, ◌++◌, map, take, drop, length, refl, sym, ap, ◌∙◌, arith, Option, Some, None, append_assoc, length-append}
 use Rattle.std.specs.Prelude.{slice_index, ◌==◌}
 use Rattle.std.specs.Char.{is_ascii_digit, is_ascii_hexdigit, digit_value}
 use Rattle.std.specs.Fmt.{decimal}
-use Rattle.std.specs.List.{list_all, prefix_len, fold, flat_map}
+use Rattle.std.specs.List.{list_all, prefix_len, flat_map}
 use Rattle.std.proofs.lemmas.Bool.Decides.{nat_tests}
 use Rattle.std.proofs.Math.Seq.{take-append_seam, drop-append_seam}
 use Rattle.std.proofs.lemmas.Fmt.{decimal_by_steps, decimal_nonempty}
@@ -12,11 +12,11 @@ use Rattle.std.proofs.lemmas.List.Sums.{fold-append}
 use Rattle.rq_values.specs.Text.{is_text}
 use Rattle.rq_grammar.specs.declared.token.Token.{Token}
 use Rattle.rq_grammar.specs.declared.token.Token.TheVariants as t
-use Rattle.rq_grammar.specs.Words.{Text, Tokens}
+use Rattle.rq_grammar.specs.Words.{Text}
 use Rattle.rq_grammar.specs.Spelling.{begins_word, is_in_word, is_bare, word_of}
 use Rattle.rq_lexer.specs.declared.placed.Placed.{Placed}
-use Rattle.rq_lexer.specs.Lex.{Front, is_blank, blank_len, is_in_numeral, is_integer, number_of, word, parameter, numeral, closing, undoubled, up_to_closing, quoted, or_other, string, quoted_name, is_hex, bytes_of_hex, is_no_quote, blob, or_short, mark, is_in_line, behind_comment, is_x, is_sigil, front, piece_of, piece, placed, lex_from, lex}
-use Rattle.rq_lexer.specs.Spelled.{tokens_in, doubled_byte, doubled, in_quotes, hex_digit, hex_byte, bytes_of, IsSpelled, ends_before}
+use Rattle.rq_lexer.specs.Lex.{Front, is_blank, blank_len, is_in_numeral, is_integer, number_of, word, parameter, numeral, closing, undoubled, up_to_closing, quoted, or_other, string, quoted_name, is_hex, bytes_of_hex, is_no_quote, blob, or_short, mark, is_in_line, behind_comment, is_x, front, piece_of, piece, placed, lex_from, lex}
+use Rattle.rq_lexer.specs.Spelled.{tokens_in, doubled, in_quotes, hex_digit, hex_byte, bytes_of, IsSpelled, ends_before}
 use Rattle.rq_lexer.proofs.Plain.{both, left, right}
 use Rattle.rq_lexer.proofs.Cut.{past, blank_goes}
 

@@ -1,20 +1,15 @@
 -- What is true of the tokens of every text.
-use Rattle.std.specs.Prelude.{◌≡◌, ℕ, ◌<◌, ◌≤◌, ◌^◌, true, List, [], ◌∷◌, Option, Some, None, Result, Ok, Err}
+use Rattle.std.specs.Prelude.{◌≡◌, ℕ, ◌<◌, ◌≤◌, List, [], ◌∷◌, Option, Some, None, Result, Ok, Err}
 use Rattle.rq_values.specs.declared.memory.NoMemory.{NoMemory}
-use Rattle.rq_values.specs.Text.{is_text}
 use Rattle.rq_grammar.specs.declared.token.Token.{Token}
 use Rattle.rq_grammar.specs.declared.token.Token.TheVariants as t
-use Rattle.rq_grammar.specs.Spelling.{word_of, is_bare}
 use Rattle.rq_lexer.specs.declared.placed.Placed.{Placed}
+use Rattle.rq_lexer.specs.Spelled.{IsSpelled}
 
--- A word is bare and its class is that of its spelling, a parameter's name is bare, what is quoted is a text, and a numeral is at most 2 ^ 63.
+-- what the tokens of a text are: each has a spelling, or stands in no statement
 abbrev pub IsCut : Token → Type 0
-IsCut (t.Word n v) = (is_bare n ≡ true) × (v ≡ word_of n)
-IsCut (t.Parameter (Some n)) = is_bare n ≡ true
-IsCut (t.Quoted n) = is_text n ≡ true
-IsCut (t.String n) = is_text n ≡ true
-IsCut (t.Numeral n) = n ≤ 2 ^ 63
-IsCut _ = Unit {0}
+IsCut t.Other = Unit {0}
+IsCut u = IsSpelled u
 
 -- each token is some bytes of the text, behind those before it
 abbrev pub InOrder : ℕ → ℕ → List Placed → Type 0

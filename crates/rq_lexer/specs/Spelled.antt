@@ -1,5 +1,5 @@
 -- How tokens are spelled. A printed statement is its tokens' spellings with blanks between some of them.
-use Rattle.std.specs.Prelude.{◌≡◌, ℕ, ◌+◌, ◌/◌, ◌%◌, ◌^◌, ◌≤◌, Bool, true, false, not, ◌&&◌, ◌==◌, nat_lt, if◌then◌else◌, List, [], ◌∷◌, ◌++◌, map, slice_index, Option, Some, None, codes}
+use Rattle.std.specs.Prelude.{◌≡◌, ℕ, ◌+◌, ◌/◌, ◌%◌, ◌^◌, ◌≤◌, Bool, true, false, not, ◌&&◌, ◌==◌, nat_lt, if◌then◌else◌, [], ◌∷◌, ◌++◌, map, slice_index, Some, None, codes}
 use Rattle.std.specs.Char.{is_ascii_digit}
 use Rattle.std.specs.Fmt.{decimal}
 use Rattle.std.specs.List.{flat_map, list_all}
@@ -62,7 +62,7 @@ bytes_of t.Close = codes ")"
 bytes_of t.Semi = codes ";"
 bytes_of t.Other = []
 
--- the tokens that have a spelling: all that texts have, but for Other
+-- The tokens that have a spelling. A word's class is that of its spelling, and a name or text in quotes is UTF-8 without NUL.
 abbrev pub IsSpelled : Token → Type 0
 IsSpelled (t.Word n v) = (is_bare n ≡ true) × (v ≡ word_of n)
 IsSpelled (t.Quoted n) = is_text n ≡ true

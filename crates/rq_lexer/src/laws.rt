@@ -5,8 +5,8 @@ ghost use Rattle.rq_lexer.specs.Lex.{lex};
 ghost use Rattle.rq_lexer.specs.Facts.{InOrder};
 ghost use Rattle.rq_lexer.specs.Spelled.{tokens_in, bytes_of, IsSpelled, ends_before};
 
-/// The places of a text's tokens rise, each token is some bytes of the text, words are bare and of the class that their spelling
-/// has, names of parameters are bare, and what is quoted is a text.
+/// The places of a text's tokens rise, and each token is some bytes of the text. Each but `Other` has a spelling, so that words are
+/// bare and of the class that their spelling has, and what is quoted is UTF-8 without NUL.
 #[tactic(auto, using(crate::proofs::Cut::lex_in_order))]
 pub fn tokens_in_order()
     ensures { (text : List ℕ) → InOrder 0 (length text) (lex text) }

@@ -1,7 +1,7 @@
 //! The lexer.
 ghost use Rattle.std.specs.Prelude.{◌≡◌, ℕ, ◌+◌, ◌<◌, ◌≤◌, length, drop, IfOk, IfSome};
 ghost use Rattle.rq_lexer.specs.Lex.{lex, lex_from, blank_len};
-ghost use Rattle.rq_lexer.specs.Facts.{IsNext};
+ghost use Rattle.rq_lexer.specs.Facts.{IsCut, IsNext};
 
 use crate::front::front;
 use crate::placed::Placed;
@@ -63,7 +63,8 @@ impl<'a> Lexer<'a> {
 
     /// The next token, None at the end. Memory is taken for the token alone; where it is short, nothing is taken from the text.
     pub fn next_token(&mut self, alloc: Global) -> Result<Option<Placed>, NoMemory>
-        ensures { IsNext self.old self.new result }
+        ensures next { IsNext self.old self.new result }
+        ensures token { IfOk result (λ next. IfSome next (λ p. (p.start < p.end) × IsCut p.token)) }
     {
         let behind = from_place(self.text, self.at);
         let blanks = blanks_len(behind);

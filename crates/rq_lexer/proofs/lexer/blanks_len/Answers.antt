@@ -1,4 +1,4 @@
-use Rattle.std.proofs.Common.{ℕ, ◌≡◌, ◌≤◌, ◌+◌, length, drop, sym, ap, ◌∙◌, subst, arith, List, length-drop}
+use Rattle.std.proofs.Common.{◌≡◌, ◌≤◌, ◌+◌, drop, sym, ap, ◌∙◌, subst, arith, length-drop}
 use Rattle.rq_lexer.specs.Lex.{lex_from, blank_len}
 use Rattle.rq_lexer.proofs.Cut.{blank_more, blank_within}
 use Rattle.rq_lexer.proofs.lexer.blanks_len.Goals as goal
