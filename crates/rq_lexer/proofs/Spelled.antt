@@ -3,7 +3,7 @@ use Rattle.std.proofs.Common.{Bool, true, false, ◌≡◌, ℕ, zero, suc, ◌+
 use Rattle.std.specs.Prelude.{slice_index, ◌==◌}
 use Rattle.std.specs.Char.{is_ascii_digit, is_ascii_hexdigit, digit_value}
 use Rattle.std.specs.Fmt.{decimal}
-use Rattle.std.specs.List.{list_all, prefix_len, flat_map}
+use Rattle.std.specs.List.{list_all, prefix_len, flat_map, AllByRecursion}
 use Rattle.std.proofs.lemmas.Bool.Decides.{nat_tests}
 use Rattle.std.proofs.Math.Seq.{take-append_seam, drop-append_seam}
 use Rattle.std.proofs.lemmas.Fmt.{decimal_by_steps, decimal_nonempty}
@@ -16,9 +16,10 @@ use Rattle.rq_grammar.specs.Words.{Text}
 use Rattle.rq_grammar.specs.Spelling.{begins_word, is_in_word, is_bare, word_of}
 use Rattle.rq_lexer.specs.declared.placed.Placed.{Placed}
 use Rattle.rq_lexer.specs.Lex.{Front, is_blank, blank_len, is_in_numeral, is_integer, number_of, word, parameter, numeral, closing, undoubled, up_to_closing, quoted, or_other, string, quoted_name, is_hex, bytes_of_hex, is_no_quote, blob, or_short, mark, is_in_line, behind_comment, is_x, front, piece_of, piece, placed, lex_from, lex}
+use Rattle.rq_lexer.specs.Facts.{IsCut, InOrder}
 use Rattle.rq_lexer.specs.Spelled.{tokens_in, doubled, in_quotes, hex_digit, hex_byte, bytes_of, IsSpelled, ends_before}
 use Rattle.rq_lexer.proofs.Plain.{both, left, right}
-use Rattle.rq_lexer.proofs.Cut.{past, blank_goes}
+use Rattle.rq_lexer.proofs.Cut.{past, blank_goes, lex_in_order}
 
 -- ---- what is cut off
 
@@ -478,3 +479,10 @@ spelled u rest h stops = cut_off (bytes_of u) rest u (some_bytes u h) (piece_spe
 pub no_tokens : tokens_in [] ≡ []
 unfolding lex lex_from
 no_tokens = refl
+
+cut_in_order : (from upto : ℕ) (ps : List Placed) → InOrder from upto ps → AllByRecursion IsCut (map (λ p. p.token) ps)
+cut_in_order from upto [] h = tt
+cut_in_order from upto (p ∷ ps) h = (h.3, cut_in_order p.end upto ps h.4)
+
+pub all_cut : (z : Text) → AllByRecursion IsCut (tokens_in z)
+all_cut z = cut_in_order 0 (length z) (lex z) (lex_in_order z)

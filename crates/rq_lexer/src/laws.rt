@@ -1,15 +1,17 @@
 //! What is proved of the tokens of every text. Each law is the contract of a function that does nothing.
 
 ghost use Rattle.std.specs.Prelude.{◌≡◌, ◌≤◌, List, [], ◌∷◌, ◌++◌, ℕ, length, slice_index, true};
+ghost use Rattle.std.specs.List.{AllByRecursion};
 ghost use Rattle.rq_lexer.specs.Lex.{lex};
-ghost use Rattle.rq_lexer.specs.Facts.{InOrder};
+ghost use Rattle.rq_lexer.specs.Facts.{InOrder, IsCut};
 ghost use Rattle.rq_lexer.specs.Spelled.{tokens_in, bytes_of, IsSpelled, ends_before};
 
 /// The places of a text's tokens rise, and each token is some bytes of the text. Each but `Other` has a spelling, so that words are
 /// bare and of the class that their spelling has, and what is quoted is UTF-8 without NUL.
-#[tactic(auto, using(crate::proofs::Cut::lex_in_order))]
+#[tactic(auto, using(crate::proofs::Cut::lex_in_order, crate::proofs::Spelled::all_cut))]
 pub fn tokens_in_order()
-    ensures { (text : List ℕ) → InOrder 0 (length text) (lex text) }
+    ensures places { (text : List ℕ) → InOrder 0 (length text) (lex text) }
+    ensures tokens { (text : List ℕ) → AllByRecursion IsCut (tokens_in text) }
 {}
 
 /// A text has no more tokens than bytes.
