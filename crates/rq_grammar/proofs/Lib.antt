@@ -9,6 +9,8 @@ pub mod SoundSteps
 pub mod Depths
 pub mod Deeper
 pub mod Due
+pub mod Room
+pub mod Popped
 pub mod Shallow
 pub mod Limited
 pub mod Stops
