@@ -2,7 +2,10 @@ mod AppendSteps
 mod AtRest
 mod Crash
 mod Framed
+mod FramesRead
 mod Headers
+mod LocalFrames
 mod Moments
 mod Opened
 mod Progress
+mod SpelledRead

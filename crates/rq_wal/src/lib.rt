@@ -9,6 +9,7 @@ mod file;
 mod frame;
 mod framing;
 mod opening;
+mod reading;
 mod replacing;
 mod spelling;
 mod synced;
