@@ -2,6 +2,9 @@ mod AppendSteps
 mod AtRest
 mod Crash
 mod Framed
+mod ExactFrames
+mod ExactLog
+mod FilesRead
 mod FramesRead
 mod Headers
 mod LocalFrames

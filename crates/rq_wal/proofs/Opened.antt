@@ -11,11 +11,11 @@ use Rattle.rq_wal.specs.Spelling.{base_bytes, body_bytes}
 use Rattle.rq_wal.specs.Replace.{in_header, generation_of, is_open}
 use Rattle.rq_wal.proofs.Headers.{short, shut_header}
 
-long_number : (n : ℕ) → length (u64_bytes n) ≡ 8
+pub long_number : (n : ℕ) → length (u64_bytes n) ≡ 8
 unfolding u64_bytes
 long_number n = refl
 
-reads_number : (n : ℕ) → n < 2 ^ 64 → from_le_bytes w64 (u64_bytes n) ≡ n
+pub reads_number : (n : ℕ) → n < 2 ^ 64 → from_le_bytes w64 (u64_bytes n) ≡ n
 unfolding u64_bytes
 reads_number n lt = from_le_bytes-to_le_bytes_8 n lt
 

@@ -8,6 +8,7 @@ mod error;
 mod file;
 mod frame;
 mod framing;
+mod laws;
 mod opening;
 mod reading;
 mod replacing;
@@ -18,6 +19,7 @@ pub use base::{Base, Stored};
 pub use error::OpenError;
 pub use file::{Batch, WalFile};
 pub use frame::Frame;
+pub use laws::logs_are_read_as_written;
 pub use opening::open;
 
 #[cfg(test)]
