@@ -14,6 +14,8 @@ use Rattle.rq_wal.specs.declared.base.Base.{Base}
 use Rattle.rq_wal.specs.declared.base.Stored.{Stored}
 use Rattle.rq_wal.specs.declared.error.OpenError.{OpenError}
 use Rattle.rq_wal.specs.declared.frame.Frame.{Frame}
+use Rattle.rq_wal.specs.declared.file.WalFile.{WalFile}
+use Rattle.rq_wal.specs.Current.{IsRead}
 use Rattle.rq_wal.specs.Gate.{EndsIn}
 use Rattle.rq_wal.specs.Log.{IsLog, HasLog, ReadsWritten, ReadsNothingElse}
 use Rattle.rq_wal.specs.Reading.{is_magic, is_small, header_fault, leaves_at, unless_, stored_of, file_gives, log_at}
@@ -21,6 +23,7 @@ use Rattle.rq_wal.specs.Replace.{generation_of, is_open}
 use Rattle.rq_wal.specs.Rules.{AreAllowed}
 use Rattle.rq_wal.specs.Spelling.{base_bytes, body_bytes, front_bytes, gated}
 use Rattle.rq_wal.specs.Stored.{started, stored_after}
+use Rattle.rq_wal.specs.WalFile.{wal_end, wal_generation}
 use Rattle.rq_wal.proofs.ExactLog.{Frames, sized_base, log_again, log_stood}
 use Rattle.rq_wal.proofs.Opened.{reads_number, long_number, new_generation}
 
@@ -88,8 +91,12 @@ u64_is : (l : List ℕ) → 8 ≤ length l → u64_at l ≡ Ok (from_le_bytes w6
 unfolding u64_at front_at
 u64_is l le = ap (λ (b : Bool). cond {A = Result (List ℕ × List ℕ) Wrong} b (Err Short) (Ok (take 8 l, drop 8 l)) >>= λ x. Ok (from_le_bytes w64 x.0, x.1)) (not_below (length l) 8 le)
 
+-- the number in a header
+abbrev pub number_at : List ℕ → ℕ
+number_at file = from_le_bytes w64 (take 8 (drop 7 file))
+
 -- the first bytes of an open file that has no fault in its header
-header_read : (number : ℕ) (file : List ℕ) → AreBytes file → is_open file ≡ true → header_fault number file ≡ None → (generation : ℕ) × (generation < 2 ^ 63) × (file ≡ head_of ++ (u64_bytes generation ++ drop 15 file))
+header_read : (number : ℕ) (file : List ℕ) → AreBytes file → is_open file ≡ true → header_fault number file ≡ None → (number_at file < 2 ^ 63) × (file ≡ head_of ++ (u64_bytes (number_at file) ++ drop 15 file))
 unfolding header_fault
 header_read number [] all is right = absurd (cc)
 header_read number (a ∷ []) all is right = absurd (cc)
@@ -117,30 +124,57 @@ header_read number (a ∷ b ∷ c ∷ d ∷ e ∷ f ∷ g ∷ rest) all is right
     let is_e : e ≡ 65 = is_number e 65 m4.0 in
     let is_f : f ≡ 76 = is_number f 76 m4.1 in
     let is_g : g ≡ 1 = is_number g 1 version.0 in
-    (from_le_bytes w64 (take 8 rest), below (from_le_bytes w64 (take 8 rest)) small.0, λ i. is_a i ∷ is_b i ∷ is_c i ∷ is_d i ∷ is_e i ∷ is_f i ∷ is_g i ∷ stood.is i)
+    (below (from_le_bytes w64 (take 8 rest)) small.0, λ i. is_a i ∷ is_b i ∷ is_c i ∷ is_d i ∷ is_e i ∷ is_f i ∷ is_g i ∷ stood.is i)
 
 front_generation : (generation : ℕ) (first : Base) (frames : List Frame) (z : List ℕ) → generation < 2 ^ 63 → generation_of (front_bytes generation first frames ++ z) ≡ Some generation
 front_generation generation first frames z lt =
     ap (λ (l : List ℕ). generation_of (1 ∷ l)) (append_assoc (body_bytes generation first) (flat_map gated frames) z) ∙ new_generation generation first (flat_map gated frames ++ z) (omega arith)
 
-has_log : (first : Base) (stored : Stored) (file : List ℕ) (generation : ℕ) (mid rest : List ℕ) → generation < 2 ^ 63 → file ≡ head_of ++ (u64_bytes generation ++ drop 15 file) → length (base_bytes first) < 2 ^ 64
-    → drop 15 file ≡ sized_base first ++ mid → Frames (started first) mid stored rest → HasLog first stored file
-has_log first stored file generation mid rest lt header fits base t = record {
-  generation = generation;
-  current = ap generation_of whole ∙ front_generation generation first t.frames (t.gate ∷ t.behind) lt;
-  done = front_bytes generation first t.frames;
-  log = record { frames = t.frames; allowed = t.allowed; folds = sym t.folds; small = lt; fits = fits; is = refl };
-  ends = record { gate = t.gate; rest = t.behind; closed = t.shut; split = whole };
-}
-  where
-    whole : file ≡ front_bytes generation first t.frames ++ t.gate ∷ t.behind
-    whole = header ∙ ap (λ (l : List ℕ). head_of ++ (u64_bytes generation ++ l)) (base ∙ ap (λ (l : List ℕ). sized_base first ++ l) (t.is ∙ ap (λ (l : List ℕ). flat_map gated t.frames ++ l) t.at))
-        ∙ sym (front_is generation first t.frames t.gate t.behind)
+-- a file that was read, with the bytes from the closed gate on
+module _ (first : Base) (stored : Stored) (number : ℕ) (file rest : List ℕ) (all : AreBytes file) (is : is_open file ≡ true) (right : header_fault number file ≡ None) (read : log_at first (drop 15 file) ≡ Ok (stored, rest)) where
+  header : (number_at file < 2 ^ 63) × (file ≡ head_of ++ (u64_bytes (number_at file) ++ drop 15 file))
+  header = header_read number file all is right
+
+  stood : (length (base_bytes first) < 2 ^ 64) × ((mid : List ℕ) × (drop 15 file ≡ sized_base first ++ mid) × Frames (started first) mid stored rest)
+  stood = log_stood first (drop 15 file) stored rest (AreBytes-drop 15 file all) read
+
+  found : Frames (started first) stood.1.0 stored rest
+  found = stood.1.2
+
+  done : List ℕ
+  done = front_bytes (number_at file) first found.frames
+
+  whole : file ≡ done ++ found.gate ∷ found.behind
+  unfolding done
+  whole = header.1 ∙ ap (λ (l : List ℕ). head_of ++ (u64_bytes (number_at file) ++ l)) (stood.1.1 ∙ ap (λ (l : List ℕ). sized_base first ++ l) (found.is ∙ ap (λ (l : List ℕ). flat_map gated found.frames ++ l) found.at))
+      ∙ sym (front_is (number_at file) first found.frames found.gate found.behind)
+
+  log_of : (l : List ℕ) → l ≡ done → IsLog first (number_at file) stored l
+  unfolding done
+  log_of l same = record { frames = found.frames; allowed = found.allowed; folds = sym found.folds; small = header.0; fits = stood.0; is = same }
+
+  pub generation_is : generation_of file ≡ Some (number_at file)
+  unfolding done
+  generation_is = ap generation_of whole ∙ front_generation (number_at file) first found.frames (found.gate ∷ found.behind) header.0
+
+  pub has_log : HasLog first stored file
+  has_log = record { generation = number_at file; current = generation_is; done = done; log = log_of done refl; ends = record { gate = found.gate; rest = found.behind; closed = found.shut; split = whole } }
+
+  sizes : length file ≡ length done + length rest
+  sizes = omega (arith, ap length whole, length-append done (found.gate ∷ found.behind), ap length found.at)
+
+  pub is_read : (wal : WalFile) → wal_generation wal ≡ number_at file → wal_end wal ≡ length file - length rest → IsRead first wal stored file
+  is_read wal generation end =
+      let at : length done ≡ wal_end wal = omega (arith, sizes, end) in
+      let front : take (wal_end wal) file ≡ done = ap (λ (l : List ℕ). take (wal_end wal) l) whole ∙ take_at done (found.gate ∷ found.behind) (wal_end wal) at in
+      record {
+        log = subst (λ (g : ℕ). IsLog first g stored (take (wal_end wal) file)) (sym generation) (log_of (take (wal_end wal) file) front);
+        within = omega (arith, at, ap length whole, length-append done (found.gate ∷ found.behind));
+        ends = record { gate = found.gate; rest = found.behind; closed = found.shut; split = whole ∙ ap (λ (l : List ℕ). l ++ found.gate ∷ found.behind) (sym front) };
+      }
 
 pub nothing_else : ReadsNothingElse
 nothing_else first number stored file all is gives =
     let parts = unless_ok (header_fault number file) (stored_of number file (log_at first (drop 15 file))) stored gives in
     let log = stored_ok number file (log_at first (drop 15 file)) stored parts.1 in
-    let header = header_read number file all is parts.0 in
-    let stood = log_stood first (drop 15 file) stored log.0 (AreBytes-drop 15 file all) log.1 in
-    has_log first stored file header.0 stood.1.0 log.0 header.1 header.2 stood.0 stood.1.1 stood.1.2
+    has_log first stored number file log.0 all is parts.0 log.1

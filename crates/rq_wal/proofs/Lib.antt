@@ -1,5 +1,6 @@
 mod AppendSteps
 mod AtRest
+mod Chosen
 mod Crash
 mod Framed
 mod ExactFrames

@@ -1,3 +1,4 @@
+pub mod Current
 pub mod Gate
 pub mod Later
 pub mod Log

@@ -4,6 +4,7 @@
 
 mod appending;
 mod base;
+mod choosing;
 mod error;
 mod file;
 mod frame;
