@@ -53,6 +53,9 @@ header_right number generation tail lt =
     ap (λ (n : ℕ). cond {A = Option OpenError} (is_small n) None (Some (leaves_at number file 7))) reads
     ∙ ap (λ (b : Bool). cond {A = Option OpenError} b None (Some (leaves_at number file 7))) (is_small_by generation lt)
 
+pub header_right_of : (number generation : ℕ) (first : Base) (frames : List Frame) (gate : ℕ) (rest : List ℕ) → generation < 2 ^ 63 → header_fault number (front_bytes generation first frames ++ gate ∷ rest) ≡ None
+header_right_of number generation first frames gate rest lt = ap (header_fault number) (front_is generation first frames gate rest) ∙ header_right number generation (tail_of first frames gate rest) lt
+
 pub written : ReadsWritten
 written first generation number gate stored done rest log ne =
     let file = head_of ++ (u64_bytes generation ++ tail_of first log.frames gate rest) in
@@ -126,7 +129,7 @@ header_read number (a ∷ b ∷ c ∷ d ∷ e ∷ f ∷ g ∷ rest) all is right
     let is_g : g ≡ 1 = is_number g 1 version.0 in
     (below (from_le_bytes w64 (take 8 rest)) small.0, λ i. is_a i ∷ is_b i ∷ is_c i ∷ is_d i ∷ is_e i ∷ is_f i ∷ is_g i ∷ stood.is i)
 
-front_generation : (generation : ℕ) (first : Base) (frames : List Frame) (z : List ℕ) → generation < 2 ^ 63 → generation_of (front_bytes generation first frames ++ z) ≡ Some generation
+pub front_generation : (generation : ℕ) (first : Base) (frames : List Frame) (z : List ℕ) → generation < 2 ^ 63 → generation_of (front_bytes generation first frames ++ z) ≡ Some generation
 front_generation generation first frames z lt =
     ap (λ (l : List ℕ). generation_of (1 ∷ l)) (append_assoc (body_bytes generation first) (flat_map gated frames) z) ∙ new_generation generation first (flat_map gated frames ++ z) (omega arith)
 

@@ -12,4 +12,6 @@ mod LocalFrames
 mod Moments
 mod Opened
 mod Progress
+mod Quiet
 mod SpelledRead
+mod Standing

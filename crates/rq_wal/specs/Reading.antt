@@ -147,5 +147,5 @@ by_generations first None (Some h) one two = file_gives first 2 two
 by_generations first (Some g) (Some h) one two =
     if nat_lt g h then unless_ (header_fault 1 one) (file_gives first 2 two) else then_ (file_gives first 1 one) (header_fault 2 two)
 
-abbrev pub pair_gives : Base → List ℕ → List ℕ → Result Stored OpenError
+unfoldable pub pair_gives : Base → List ℕ → List ℕ → Result Stored OpenError
 pair_gives first one two = by_generations first (generation_of one) (generation_of two) one two

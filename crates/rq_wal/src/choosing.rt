@@ -202,6 +202,7 @@ fn choose_one(
 }
 
 /// What the content of two files stands for, and the current one; nothing where neither is open.
+#[tactic(auto, unfolding(crate::specs::Reading::pair_gives))]
 pub fn choose(
     alloc: Global,
     first: &Base,
