@@ -2,6 +2,7 @@ mod AppendSteps
 mod AtRest
 mod Chosen
 mod Crash
+mod Found
 mod Framed
 mod ExactFrames
 mod ExactLog
@@ -13,5 +14,6 @@ mod Moments
 mod Opened
 mod Progress
 mod Quiet
+mod Settled
 mod SpelledRead
 mod Standing

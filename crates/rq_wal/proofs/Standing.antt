@@ -8,6 +8,7 @@ use Rattle.rq_outside.specs.declared.pair.FileNo.{FileNo}
 use Rattle.rq_outside.specs.declared.pair.FileNo.TheVariants.{One, Two}
 use Rattle.rq_outside.specs.Disk.{DiskMeaning, LeavesOnly, Only, Stays, Elapses}
 use Rattle.rq_outside.specs.Pair.{other, disk_at}
+use Rattle.rq_values.specs.Spelling.{u64_bytes}
 use Rattle.rq_wal.specs.declared.base.Base.{Base}
 use Rattle.rq_wal.specs.declared.base.Stored.{Stored}
 use Rattle.rq_wal.specs.declared.error.OpenError.{OpenError}
@@ -31,20 +32,26 @@ use Rattle.rq_wal.proofs.Quiet.{quiet}
 pub new_file : (first : Base) (rest : List ℕ) → rest ≡ body_bytes 1 first ++ 0 ∷ [] → 1 ∷ rest ≡ file_bytes 1 first []
 new_file first rest is = ap (λ (l : List ℕ). 1 ∷ l) (is ∙ ap (λ (l : List ℕ). l ++ 0 ∷ []) (sym (append-nil (body_bytes 1 first))))
 
+pub body_size : (first : Base) (n : ℕ) → length (body_bytes 1 first ++ 0 ∷ []) ≡ n → n < 2 ^ 64 → length (base_bytes first) < 2 ^ 64
+body_size first n is lt =
+    let base = base_bytes first in
+    let size = u64_bytes (length base) in
+    omega (arith, is, lt, length-append (body_bytes 1 first) (0 ∷ []), length-append (u64_bytes 1) (size ++ base), length-append size base)
+
 begun_below : (first : Base) (file : List ℕ) → IsBelow 0 file → IsBegun first file
 begun_below first file (inl none) = inl none
 begun_below first file (inr some) = absurd (omega (arith, some.2))
 
-begun_new : (first : Base) (new file : List ℕ) → new ≡ file_bytes 1 first [] → IsOldOrNew 0 new file → IsBegun first file
-begun_new first new file is (inl below) = begun_below first file below
-begun_new first new file is (inr same) = inr (same ∙ is)
+begun_new : (first : Base) (new file : List ℕ) → new ≡ file_bytes 1 first [] → length (base_bytes first) < 2 ^ 64 → IsOldOrNew 0 new file → IsBegun first file
+begun_new first new file is fits (inl below) = begun_below first file below
+begun_new first new file is fits (inr same) = inr (same ∙ is, fits)
 
 pub begun_moments : (first : Base) (old ready mid new : DiskMeaning) (rest : List ℕ) → generation_of old.content ≡ None → Only old.content old.images → OnlyNow old → Stays old ready → Elapses old ready → LeavesOnly ready mid (IsBelow 0)
-    → LeavesOnly mid new (IsOldOrNew 0 (1 ∷ rest)) → 1 ∷ rest ≡ file_bytes 1 first [] → LeavesOnly old new (IsBegun first)
-begun_moments first old ready mid new rest closed only now same time below opens is =
+    → LeavesOnly mid new (IsOldOrNew 0 (1 ∷ rest)) → 1 ∷ rest ≡ file_bytes 1 first [] → length (base_bytes first) < 2 ^ 64 → LeavesOnly old new (IsBegun first)
+begun_moments first old ready mid new rest closed only now same time below opens is fits =
     then old mid new (IsBegun first) (IsOldOrNew 0 (1 ∷ rest)) (IsBegun first)
     (then old ready mid old.images (IsBelow 0) (IsBegun first) (quiet old ready now time same.no_more) below (λ c image. inl (ap generation_of (only c image) ∙ closed)) (begun_below first))
-    opens (λ c p. p) (λ c. begun_new first (1 ∷ rest) c is)
+    opens (λ c p. p) (λ c. begun_new first (1 ∷ rest) c is fits)
 
 -- ---- the current one of two files
 
@@ -122,3 +129,82 @@ module _ {D F : Type 0} (means : D → DiskMeaning) (first : Base) where
       let no = wal_file wal in
       pair_with first (wal_generation wal) stored (take (wal_end wal) (means (disk_at pair no)).content) (means (disk_at pair no)).content current.log current.at_rest.ends no one two
       (current.at_rest.durable (file_at no one two) (images_at pair one two i1 i2 no)) (current.behind (file_at (other no) one two) (images_at pair one two i1 i2 (other no)))
+
+-- ---- each moment of an opening
+
+-- closed files in the place of closed files
+both_closed : (first : Base) (a b two : List ℕ) → generation_of a ≡ None → generation_of b ≡ None → pair_gives first a two ≡ pair_gives first b two
+unfolding pair_gives
+both_closed first a b two none none' = without (generation_of two)
+  where
+    without : (other : Option ℕ) → by_generations first (generation_of a) other a two ≡ by_generations first (generation_of b) other b two
+    without None = (λ i. by_generations first (none i) None a two) ∙ sym (λ i. by_generations first (none' i) None b two)
+    without (Some h) = (λ i. by_generations first (none i) (Some h) a two) ∙ sym (λ i. by_generations first (none' i) (Some h) b two)
+
+ok_same : (a b : Stored) (r : Result Stored OpenError) → r ≡ Ok a → r ≡ Ok b → a ≡ b
+ok_same a b r p q = cc
+
+none_gives : (first : Base) (one two : List ℕ) (stored : Stored) → generation_of one ≡ None → generation_of two ≡ None → pair_gives first one two ≡ Ok stored → started first ≡ stored
+unfolding pair_gives
+none_gives first one two stored none none' gives = ok_same (started first) stored (by_generations first (generation_of one) (generation_of two) one two) (λ i. by_generations first (none i) (none' i) one two) gives
+
+-- the new file one, beside a file two that stood for the same
+module _ (first : Base) (fits : length (base_bytes first) < 2 ^ 64) where
+  new_log : IsLog first 1 (started first) (front_bytes 1 first [])
+  new_log = record { frames = []; allowed = tt; folds = refl; small = omega arith; fits = fits; is = refl }
+
+  new_ends : EndsIn (front_bytes 1 first []) (file_bytes 1 first [])
+  new_ends = record { gate = 0; rest = []; closed = omega arith; split = refl }
+
+  unless_right : (fault : Option OpenError) (r : Result Stored OpenError) (stored : Stored) → unless_ fault r ≡ Ok stored → fault ≡ None
+  unless_right None r stored h = refl
+  unless_right (Some fault) r stored h = absurd (cc)
+
+  beside : (one two : List ℕ) → generation_of one ≡ None → pair_gives first one two ≡ Ok (started first) → pair_gives first (file_bytes 1 first []) two ≡ Ok (started first)
+  unfolding pair_gives
+  beside one two none gives = with_two (generation_of two) refl
+    where
+      current : generation_of (file_bytes 1 first []) ≡ Some 1
+      current = ends_generation first 1 (started first) (front_bytes 1 first []) (file_bytes 1 first []) new_log new_ends
+
+      right : header_fault 1 (file_bytes 1 first []) ≡ None
+      right = ends_right first 1 (started first) (front_bytes 1 first []) (file_bytes 1 first []) new_log new_ends 1
+
+      gives_one : file_gives first 1 (file_bytes 1 first []) ≡ Ok (started first)
+      gives_one = ends_gives first 1 (started first) (front_bytes 1 first []) (file_bytes 1 first []) new_log new_ends 1
+
+      either : (b : Bool) → file_gives first 2 two ≡ Ok (started first) → cond b (unless_ (header_fault 1 (file_bytes 1 first [])) (file_gives first 2 two)) (then_ (file_gives first 1 (file_bytes 1 first [])) (header_fault 2 two)) ≡ Ok (started first)
+      either true two_gives = λ i. unless_ (right i) (two_gives i)
+      either false two_gives = λ i. then_ (gives_one i) (unless_right (header_fault 2 two) _ (started first) two_gives i)
+
+      with_two : (o : Option ℕ) → generation_of two ≡ o → pair_gives first (file_bytes 1 first []) two ≡ Ok (started first)
+      with_two None is = (λ i. by_generations first (current i) (is i) (file_bytes 1 first []) two) ∙ gives_one
+      with_two (Some h) is =
+          let two_gives : file_gives first 2 two ≡ Ok (started first) = (λ i. by_generations first (sym none i) (sym is i) one two) ∙ gives in
+          (λ i. by_generations first (current i) (is i) (file_bytes 1 first []) two)
+          ∙ either (nat_lt 1 h) two_gives
+
+module _ {D F : Type 0} (means : D → DiskMeaning) (first : Base) (stored : Stored) (old : DiskPair D F) (all : EachImageGives means first old stored) where
+  -- no image was added
+  pub always_kept : (new : DiskPair D F) → LeavesOnly (means old.one) (means new.one) (means old.one).images → LeavesOnly (means old.two) (means new.two) (means old.two).images → EachSinceGives means first old new stored
+  always_kept new one_only two_only one two i1 i2 = all one two (one_only.each one i1) (two_only.each two i2)
+
+  -- file one was written
+  pub always_begun : (new : DiskPair D F) → (means old.one).images (means old.one).content → (means old.two).images (means old.two).content → generation_of (means old.one).content ≡ None → generation_of (means old.two).content ≡ None
+      → LeavesOnly (means old.one) (means new.one) (λ c. (means old.one).images c ⊎ IsBegun first c) → LeavesOnly (means old.two) (means new.two) (means old.two).images → EachSinceGives means first old new stored
+  always_begun new now_one now_two none none' one_only two_only one two i1 i2 = by_case (one_only.each one i1)
+    where
+      c2 : (means old.two).images two
+      c2 = two_only.each two i2
+
+      is : started first ≡ stored
+      is = none_gives first (means old.one).content (means old.two).content stored none none' (all (means old.one).content (means old.two).content now_one now_two)
+
+      beside_old : pair_gives first (means old.one).content two ≡ Ok stored
+      beside_old = all (means old.one).content two now_one c2
+
+      by_case : (means old.one).images one ⊎ IsBegun first one → pair_gives first one two ≡ Ok stored
+      by_case (inl before) = all one two before c2
+      by_case (inr (inl closed)) = both_closed first one (means old.one).content two closed none ∙ beside_old
+      by_case (inr (inr new_one)) =
+          ap (λ (l : List ℕ). pair_gives first l two) new_one.0 ∙ beside first new_one.1 (means old.one).content two none (beside_old ∙ ap Ok (sym is)) ∙ ap Ok is

@@ -1,5 +1,5 @@
 -- The current file of a pair, and the other one.
-use Rattle.std.specs.Prelude.{◌≡◌, ◌⊎◌, ◌≤◌, ◌<◌, ℕ, List, [], length, take, Option, Some, None, Ok}
+use Rattle.std.specs.Prelude.{◌≡◌, ◌⊎◌, ◌≤◌, ◌<◌, ◌^◌, ℕ, List, [], length, take, Option, Some, None, Ok}
 use Rattle.rq_outside.specs.declared.pair.DiskPair.{DiskPair}
 use Rattle.rq_outside.specs.declared.pair.FileNo.{FileNo}
 use Rattle.rq_outside.specs.declared.pair.FileNo.TheVariants.{One, Two}
@@ -12,7 +12,7 @@ use Rattle.rq_wal.specs.Gate.{EndsIn, IsAtRest}
 use Rattle.rq_wal.specs.Log.{IsLog}
 use Rattle.rq_wal.specs.Reading.{header_fault, pair_gives}
 use Rattle.rq_wal.specs.Replace.{generation_of}
-use Rattle.rq_wal.specs.Spelling.{file_bytes}
+use Rattle.rq_wal.specs.Spelling.{base_bytes, file_bytes}
 use Rattle.rq_wal.specs.WalFile.{wal_file, wal_end, wal_generation}
 
 -- Beside the current file, which has this number and this generation, the other one doesn't count: it is closed, or it
@@ -53,7 +53,7 @@ IsFound first one two (Some opened) = IsOpened first one two opened.0 opened.1
 
 -- what a stop in the first writing of file one leaves: it isn't open yet, or it is the new file, whole
 abbrev pub IsBegun : Base → List ℕ → Type 0
-IsBegun first file = (generation_of file ≡ None) ⊎ (file ≡ file_bytes 1 first [])
+IsBegun first file = (generation_of file ≡ None) ⊎ ((file ≡ file_bytes 1 first []) × (length (base_bytes first) < 2 ^ 64))
 
 module _ {D F : Type 0} (means : D → DiskMeaning) where
   -- the current file of a pair is a log at rest, and each image of the other one is behind it

@@ -1,5 +1,5 @@
 //! The current one of two files, and what is stored in it.
-ghost use Rattle.std.specs.Prelude.{◌≡◌, ◌⊎◌, ◌≤◌, true, take, drop, length, Some, None, Ok, Err, IfOk, IfErr, OnOk, OnSome};
+ghost use Rattle.std.specs.Prelude.{◌≡◌, ◌≢◌, ◌⊎◌, ◌≤◌, true, take, drop, length, Some, None, Ok, Err, IfOk, IfErr, OnOk, OnSome};
 ghost use Rattle.std.specs.Int.{w64, from_le_bytes};
 ghost use Rattle.rq_wal.specs.declared.error.OpenError.TheVariants as errors;
 ghost use Rattle.rq_wal.specs.Current.{IsRead, IsFound, number_of};
@@ -64,6 +64,7 @@ fn check_header(number: u8, file: &[u8]) -> Result<(), OpenError>
     requires { 23 ≤ length file.now }
     ensures right { OnOk result (header_fault number file.now ≡ None) }
     ensures fault { IfErr result (λ e. header_fault number file.now ≡ Some e) }
+    ensures no_disk { IfErr result (λ e. e ≢ errors.Disk) }
 {
     if !has_magic(file) {
         return Err(leaves(number, file, 1));
@@ -116,6 +117,7 @@ fn read_log(
     ensures gives { IfOk result (λ opened. file_gives first.now (number_of no) file.now ≡ Ok opened.1) }
     ensures read { IfOk result (λ opened. IsRead first.now opened.0 opened.1 file.now) }
     ensures refused { IfErr result (λ e. (e ≡ errors.NoMemory) ⊎ (file_gives first.now (number_of no) file.now ≡ Err e)) }
+    ensures no_disk { IfErr result (λ e. e ≢ errors.Disk) }
 {
     let mut spelled = Vec::new(alloc);
     first.put(&mut spelled)?;
@@ -153,6 +155,7 @@ fn read_file(
     ensures gives { IfOk result (λ opened. file_gives first.now (number_of no) file.now ≡ Ok opened.1) }
     ensures read { IfOk result (λ opened. IsRead first.now opened.0 opened.1 file.now) }
     ensures refused { IfErr result (λ e. (e ≡ errors.NoMemory) ⊎ (file_gives first.now (number_of no) file.now ≡ Err e)) }
+    ensures no_disk { IfErr result (λ e. e ≢ errors.Disk) }
 {
     check_header(number_of(no), file)?;
     read_log(alloc, first, no, file)
@@ -174,6 +177,7 @@ fn choose_two(
     ensures gives { IfOk result (λ opened. unless_ (header_fault 1 one.now) (file_gives first.now 2 two.now) ≡ Ok opened.1) }
     ensures read { IfOk result (λ opened. IsRead first.now opened.0 opened.1 two.now) }
     ensures refused { IfErr result (λ e. (e ≡ errors.NoMemory) ⊎ (unless_ (header_fault 1 one.now) (file_gives first.now 2 two.now) ≡ Err e)) }
+    ensures no_disk { IfErr result (λ e. e ≢ errors.Disk) }
 {
     check_header(1, one)?;
     read_file(alloc, first, FileNo::Two, two)
@@ -195,6 +199,7 @@ fn choose_one(
     ensures gives { IfOk result (λ opened. then_ (file_gives first.now 1 one.now) (header_fault 2 two.now) ≡ Ok opened.1) }
     ensures read { IfOk result (λ opened. IsRead first.now opened.0 opened.1 one.now) }
     ensures refused { IfErr result (λ e. (e ≡ errors.NoMemory) ⊎ (then_ (file_gives first.now 1 one.now) (header_fault 2 two.now) ≡ Err e)) }
+    ensures no_disk { IfErr result (λ e. e ≢ errors.Disk) }
 {
     let opened = read_file(alloc, first, FileNo::One, one)?;
     check_header(2, two)?;
@@ -211,6 +216,7 @@ pub fn choose(
 ) -> Result<Option<(WalFile, Stored)>, OpenError>
     ensures found { IfOk result (λ found. IsFound first.now one.now two.now found) }
     ensures refused { IfErr result (λ e. (e ≡ errors.NoMemory) ⊎ (pair_gives first.now one.now two.now ≡ Err e)) }
+    ensures no_disk { IfErr result (λ e. e ≢ errors.Disk) }
 {
     match (generation(one), generation(two)) {
         (None, None) => Ok(None),

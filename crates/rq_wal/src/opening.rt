@@ -1,11 +1,11 @@
 //! Opening a pair.
-ghost use Rattle.std.specs.Prelude.{◌≡◌, ◌≢◌, ◌⊎◌, ◌≤◌, ◌<◌, ◌+◌, ◌^◌, [], length, true, false, Some, None, Ok, Err, IsTrue, IfOk, IfErr, OnOk, OnErr, IsErrOf};
+ghost use Rattle.std.specs.Prelude.{◌≡◌, ◌≢◌, ◌⊎◌, ◌≤◌, ◌<◌, ◌+◌, ◌^◌, [], length, true, false, Some, None, Ok, Err, IsTrue, IfOk, IfErr, OnOk, OnErr, IfSome, OnSome, IsErrOf};
 ghost use Rattle.rq_outside.specs.Disk.{Only, Stays, LeavesOnly};
 ghost use Rattle.rq_outside.specs.Pair.{other, disk_at, PairRose};
 ghost use Rattle.rq_wal.specs.Later.{Later};
 ghost use Rattle.rq_wal.specs.declared.base.Stored.{Stored};
 ghost use Rattle.rq_wal.specs.declared.error.OpenError.TheVariants as errors;
-ghost use Rattle.rq_wal.specs.Current.{IsBegun, IsCurrent, EachImageGives, EachSinceGives};
+ghost use Rattle.rq_wal.specs.Current.{IsBegun, IsFound, IsCurrent, EachImageGives, EachSinceGives};
 ghost use Rattle.rq_wal.specs.Gate.{IsAtRest};
 ghost use Rattle.rq_wal.specs.Reading.{pair_gives};
 ghost use Rattle.rq_wal.specs.Replace.{is_open, generation_of};
@@ -40,8 +40,6 @@ pub fn open<D: Disk>(
     ensures refusals { IsTrue D.told → IfErr result (λ e. (e ≡ errors.Disk) ⊎ (e ≡ errors.NoMemory) ⊎ (pair_gives first.now (D.means (disk_at disks.old FileNo.One)).content (D.means (disk_at disks.old FileNo.Two)).content ≡ Err e)) }
     ensures unchanged { IsTrue D.told → IfErr result (λ e. (e ≡ errors.Disk) ⊎ ((D.means (disk_at disks.new FileNo.One)).content ≡ (D.means (disk_at disks.old FileNo.One)).content)) }
     ensures two { IsTrue D.told → (D.means (disk_at disks.new FileNo.Two)).content ≡ (D.means (disk_at disks.old FileNo.Two)).content }
-    ensures two_durable { IsTrue D.told → OnOk result (Only (D.means (disk_at disks.new FileNo.Two)).content (D.means (disk_at disks.new FileNo.Two)).images) }
-    ensures one_durable { IsTrue D.told → OnOk result (Only (D.means (disk_at disks.new FileNo.One)).content (D.means (disk_at disks.new FileNo.One)).images) }
     ensures stored { IsTrue D.told → is_open (D.means (disk_at disks.old FileNo.One)).content ≡ false → is_open (D.means (disk_at disks.old FileNo.Two)).content ≡ false → IfOk result (λ opened. opened.1 ≡ stored_after first.now []) }
     ensures file { IsTrue D.told → is_open (D.means (disk_at disks.old FileNo.One)).content ≡ false → is_open (D.means (disk_at disks.old FileNo.Two)).content ≡ false → IfOk result (λ opened. wal_file opened.0 ≡ FileNo.One) }
     ensures generation { IsTrue D.told → is_open (D.means (disk_at disks.old FileNo.One)).content ≡ false → is_open (D.means (disk_at disks.old FileNo.Two)).content ≡ false → IfOk result (λ opened. wal_generation opened.0 ≡ 1) }
@@ -50,11 +48,60 @@ pub fn open<D: Disk>(
     ensures at_rest { IfOk result (λ opened. IsTrue D.told → IsAtRest (D.means (disk_at disks.new (wal_file opened.0))) (wal_end opened.0)) }
     ensures cause { IsErrOf result errors.Disk → PairRose D.means disks.old disks.new }
 {
-    let (one, two) = look(alloc, disks)?;
-    if let Some(opened) = choose(alloc, first, &one, &two)? {
-        return Ok(opened);
+    let found = find(alloc, disks, first)?;
+    settle(alloc, disks, first, found)
+}
+
+/// The file that was found, or a new one.
+fn settle<D: Disk>(
+    alloc: Global,
+    disks: &mut DiskPair<D>,
+    first: &Base,
+    found: Option<(WalFile, Stored)>,
+) -> Result<(WalFile, Stored), OpenError>
+    requires closed { IsTrue D.told → found ≡ None → generation_of (D.means (disk_at disks.old FileNo.One)).content ≡ None }
+    requires durable { IsTrue D.told → Only (D.means (disk_at disks.old FileNo.One)).content (D.means (disk_at disks.old FileNo.One)).images }
+    ensures found { OnSome found (disks.new ≡ disks.old) }
+    ensures same { IfSome found (λ opened. result ≡ Ok opened) }
+    ensures two { disk_at disks.new FileNo.Two ≡ disk_at disks.old FileNo.Two }
+    ensures stored { found ≡ None → IfOk result (λ opened. opened.1 ≡ stored_after first.now []) }
+    ensures file { found ≡ None → IfOk result (λ opened. wal_file opened.0 ≡ FileNo.One) }
+    ensures generation { found ≡ None → IfOk result (λ opened. wal_generation opened.0 ≡ 1) }
+    ensures end { found ≡ None → IfOk result (λ opened. wal_end opened.0 ≡ length (front_bytes 1 first.now [])) }
+    ensures fits { found ≡ None → OnOk result (length (base_bytes first.now) < 2 ^ 64) }
+    ensures written { IsTrue D.told → found ≡ None → OnOk result ((D.means (disk_at disks.new FileNo.One)).content ≡ file_bytes 1 first.now []) }
+    ensures at_rest { IsTrue D.told → found ≡ None → IfOk result (λ opened. IsAtRest (D.means (disk_at disks.new FileNo.One)) (wal_end opened.0)) }
+    ensures moments { IsTrue D.told → found ≡ None → LeavesOnly (D.means (disk_at disks.old FileNo.One)) (D.means (disk_at disks.new FileNo.One)) (IsBegun first.now) }
+    ensures no_memory { IsTrue D.told → IsErrOf result errors.NoMemory → (D.means (disk_at disks.new FileNo.One)).content ≡ (D.means (disk_at disks.old FileNo.One)).content }
+    ensures refusals { IfErr result (λ e. (e ≡ errors.Disk) ⊎ (e ≡ errors.NoMemory)) }
+    ensures later { Later D.means disks.old disks.new }
+    ensures cause { IsErrOf result errors.Disk → PairRose D.means disks.old disks.new }
+{
+    match found {
+        Some(opened) => Ok(opened),
+        None => begin(alloc, disks, first),
     }
-    begin(alloc, disks, first)
+}
+
+/// Syncs both files, reads them, and chooses the current one.
+fn find<D: Disk>(
+    alloc: Global,
+    disks: &mut DiskPair<D>,
+    first: &Base,
+) -> Result<Option<(WalFile, Stored)>, OpenError>
+    ensures found { IsTrue D.told → IfOk result (λ found. IsFound first.now (D.means (disk_at disks.old FileNo.One)).content (D.means (disk_at disks.old FileNo.Two)).content found) }
+    ensures refused { IsTrue D.told → IfErr result (λ e. (e ≡ errors.Disk) ⊎ (e ≡ errors.NoMemory) ⊎ (pair_gives first.now (D.means (disk_at disks.old FileNo.One)).content (D.means (disk_at disks.old FileNo.Two)).content ≡ Err e)) }
+    ensures one { IsTrue D.told → (D.means (disk_at disks.new FileNo.One)).content ≡ (D.means (disk_at disks.old FileNo.One)).content }
+    ensures two { IsTrue D.told → (D.means (disk_at disks.new FileNo.Two)).content ≡ (D.means (disk_at disks.old FileNo.Two)).content }
+    ensures one_durable { IsTrue D.told → OnOk result (Only (D.means (disk_at disks.new FileNo.One)).content (D.means (disk_at disks.new FileNo.One)).images) }
+    ensures two_durable { IsTrue D.told → OnOk result (Only (D.means (disk_at disks.new FileNo.Two)).content (D.means (disk_at disks.new FileNo.Two)).images) }
+    ensures one_moments { IsTrue D.told → LeavesOnly (D.means (disk_at disks.old FileNo.One)) (D.means (disk_at disks.new FileNo.One)) (D.means (disk_at disks.old FileNo.One)).images }
+    ensures two_moments { IsTrue D.told → LeavesOnly (D.means (disk_at disks.old FileNo.Two)) (D.means (disk_at disks.new FileNo.Two)) (D.means (disk_at disks.old FileNo.Two)).images }
+    ensures later { Later D.means disks.old disks.new }
+    ensures cause { IsErrOf result errors.Disk → PairRose D.means disks.old disks.new }
+{
+    let (one, two) = look(alloc, disks)?;
+    choose(alloc, first, &one, &two)
 }
 
 /// Writes file one with this base; all memory is taken before.

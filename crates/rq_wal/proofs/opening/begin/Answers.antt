@@ -3,7 +3,7 @@ use Rattle.rq_outside.specs.declared.pair.FileNo.TheVariants.{One}
 use Rattle.rq_outside.specs.Pair.{disk_at}
 use Rattle.rq_wal.specs.Replace.{generation_of}
 use Rattle.rq_wal.specs.Spelling.{body_bytes}
-use Rattle.rq_wal.proofs.Standing.{begun_moments, new_file}
+use Rattle.rq_wal.proofs.Standing.{begun_moments, new_file, body_size}
 use Rattle.rq_wal.proofs.AtRest.{ends_at_rest}
 use Rattle.rq_wal.proofs.Opened.{new_generation}
 use Rattle.rq_wal.proofs.opening.begin.Goals as goal
@@ -28,6 +28,7 @@ returns-in_err-finish_replace-clause-moments g c told =
     begun_moments c.args.first.now (means (disk_at c.args.disks.now One)) (means (disk_at c.ready.new.self One)) (means (disk_at c.begin_replace.new.disks One)) (means (disk_at c.finish_replace.new.disks One)) c.deref.result.now
     (c.requires.closed told) (c.requires.durable told) (g.met.D.Disk.only_now told (disk_at c.args.disks.now One)) (c.ready.ensures.same told) (c.ready.ensures.time told) (c.begin_replace.ensures.any_moment told) (c.finish_replace.ensures.any_moment told)
     (new_file c.args.first.now c.deref.result.now (c.deref.ensures.value ∙ c.in_ok-body.ensures))
+    (body_size c.args.first.now c.len.result (omega (arith, ap length (c.deref.ensures.value ∙ c.in_ok-body.ensures), c.deref.ensures.len, c.len.ensures)) c.len.type_inv)
 
 pub returns-clause-moments : goal.returns-clause-moments
 returns-clause-moments g c told =
@@ -35,3 +36,4 @@ returns-clause-moments g c told =
     begun_moments c.args.first.now (means (disk_at c.args.disks.now One)) (means (disk_at c.ready.new.self One)) (means (disk_at c.begin_replace.new.disks One)) (means (disk_at c.finish_replace.new.disks One)) c.deref.result.now
     (c.requires.closed told) (c.requires.durable told) (g.met.D.Disk.only_now told (disk_at c.args.disks.now One)) (c.ready.ensures.same told) (c.ready.ensures.time told) (c.begin_replace.ensures.any_moment told) (c.finish_replace.ensures.any_moment told)
     (new_file c.args.first.now c.deref.result.now (c.deref.ensures.value ∙ c.in_ok-body.ensures))
+    (body_size c.args.first.now c.len.result (omega (arith, ap length (c.deref.ensures.value ∙ c.in_ok-body.ensures), c.deref.ensures.len, c.len.ensures)) c.len.type_inv)
