@@ -1,5 +1,5 @@
 -- A pair that was opened: by the file that was found, or by a new one.
-use Rattle.std.proofs.Common.{◌≡◌, ◌⊎◌, inl, inr, ℕ, ◌+◌, ◌<◌, ◌^◌, List, [], ◌∷◌, ◌++◌, length, take, Option, Some, None, Result, Ok, Err, IfOk, IfSome, OnSome, OnOk, refl, sym, ap, subst, ◌∙◌, arith}
+use Rattle.std.proofs.Common.{Bool, false, IsTrue, IfErr, IsErrOf, ◌≡◌, ◌⊎◌, inl, inr, ℕ, ◌+◌, ◌<◌, ◌^◌, List, [], ◌∷◌, ◌++◌, length, take, Option, Some, None, Result, Ok, Err, IfOk, IfSome, OnSome, OnOk, refl, sym, ap, subst, ◌∙◌, arith}
 use Rattle.std.proofs.lemmas.List.{take_at}
 use Rattle.rq_outside.specs.declared.pair.DiskPair.{DiskPair}
 use Rattle.rq_outside.specs.declared.pair.FileNo.{FileNo}
@@ -9,17 +9,19 @@ use Rattle.rq_outside.specs.Pair.{other, disk_at}
 use Rattle.rq_wal.specs.declared.base.Base.{Base}
 use Rattle.rq_wal.specs.declared.base.Stored.{Stored}
 use Rattle.rq_wal.specs.declared.error.OpenError.{OpenError}
+use Rattle.rq_wal.specs.declared.error.OpenError.TheVariants as errors
 use Rattle.rq_wal.specs.declared.file.WalFile.{WalFile}
-use Rattle.rq_wal.specs.Current.{IsBehind, IsFound, IsBegun, IsCurrent, EachImageGives, EachSinceGives}
+use Rattle.rq_wal.specs.Current.{file_at, IsBehind, IsFound, IsBegun, IsCurrent, EachImageGives, EachSinceGives}
 use Rattle.rq_wal.specs.Gate.{IsAtRest}
 use Rattle.rq_wal.specs.Log.{IsLog}
 use Rattle.rq_wal.specs.Reading.{by_generations, pair_gives}
-use Rattle.rq_wal.specs.Replace.{generation_of}
+use Rattle.rq_wal.specs.Replace.{generation_of, is_open}
 use Rattle.rq_wal.specs.Spelling.{base_bytes, front_bytes, file_bytes}
 use Rattle.rq_wal.specs.Stored.{started, stored_after}
 use Rattle.rq_wal.specs.WalFile.{wal_file, wal_end, wal_generation}
 use Rattle.rq_wal.proofs.Moments.{then}
-use Rattle.rq_wal.proofs.Standing.{current_of, images_give, always_kept, always_begun, new_log}
+use Rattle.rq_wal.proofs.Standing.{current_of, images_give, always_kept, always_begun, new_log, ends_generation}
+use Rattle.rq_wal.proofs.Opened.{closed_file}
 
 abbrev Opened : Type 0
 Opened = Result (WalFile × Stored) OpenError
@@ -90,3 +92,31 @@ module _ {D F : Type 0} (means : D → DiskMeaning) (first : Base) where
       always_begun means first stored old all new now1 now2 is.0 is.1
       (then (means old.one) (means mid.one) (means new.one) (means old.one).images (IsBegun first) (λ c. (means old.one).images c ⊎ IsBegun first c) m1 (begun refl) (λ c p. inl p) (λ c p. inr p))
       (subst (λ (d : D). LeavesOnly (means old.two) (means d) (means old.two).images) (sym two) m2)
+
+-- ---- the answers of opening
+
+clash : (g : ℕ) (o : Option ℕ) → o ≡ Some g → o ≡ None → ⊥
+clash g o some none = let same : Some g ≡ None = sym some ∙ none in absurd (cc)
+
+pub none_found : (first : Base) (one two : List ℕ) (found : Option (WalFile × Stored)) → IsFound first one two found → is_open one ≡ false → is_open two ≡ false → found ≡ None
+none_found first one two None is shut shut' = refl
+none_found first one two (Some o) is shut shut' =
+    absurd (clash (wal_generation o.0) (generation_of (file_at (wal_file o.0) one two)) (ends_generation first (wal_generation o.0) o.1 (take (wal_end o.0) (file_at (wal_file o.0) one two)) (file_at (wal_file o.0) one two) is.read.log is.read.ends) (closed_at (wal_file o.0)))
+  where
+    closed_at : (no : FileNo) → generation_of (file_at no one two) ≡ None
+    closed_at One = closed_file one shut
+    closed_at Two = closed_file two shut'
+
+pub rest_in : {D F : Type 0} (means : D → DiskMeaning) (first : Base) (told : Bool) (new : DiskPair D F) (r : Opened) → (IsTrue told → IfOk r (λ o. IsCurrent means first new o.0 o.1)) → IfOk r (λ o. IsTrue told → IsAtRest (means (disk_at new (wal_file o.0))) (wal_end o.0))
+rest_in means first told new (Ok o) current = λ t. (current t).at_rest
+rest_in means first told new (Err e) current = tt
+
+pub unchanged_in : (r : Opened) (X : Type 0) → IfErr r (λ e. (e ≡ errors.Disk) ⊎ (e ≡ errors.NoMemory)) → (IsErrOf r errors.NoMemory → X) → IfErr r (λ e. (e ≡ errors.Disk) ⊎ X)
+unchanged_in (Ok o) X refused same = tt
+unchanged_in (Err e) X (inl disk) same = inl disk
+unchanged_in (Err e) X (inr none) same = inr (same (ap Err none))
+
+pub refused_so : (r : Opened) (X : OpenError → Type 0) → IfErr r (λ e. (e ≡ errors.Disk) ⊎ (e ≡ errors.NoMemory)) → IfErr r (λ e. (e ≡ errors.Disk) ⊎ (e ≡ errors.NoMemory) ⊎ X e)
+refused_so (Ok o) X refused = tt
+refused_so (Err e) X (inl disk) = inl disk
+refused_so (Err e) X (inr none) = inr (inl none)

@@ -150,7 +150,7 @@ none_gives first one two stored none none' gives = ok_same (started first) store
 
 -- the new file one, beside a file two that stood for the same
 module _ (first : Base) (fits : length (base_bytes first) < 2 ^ 64) where
-  new_log : IsLog first 1 (started first) (front_bytes 1 first [])
+  pub new_log : IsLog first 1 (started first) (front_bytes 1 first [])
   new_log = record { frames = []; allowed = tt; folds = refl; small = omega arith; fits = fits; is = refl }
 
   new_ends : EndsIn (front_bytes 1 first []) (file_bytes 1 first [])

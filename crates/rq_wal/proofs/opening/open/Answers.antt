@@ -1,7 +1,8 @@
-use Rattle.std.proofs.Common.{◌∙◌, sym, ap}
+use Rattle.std.proofs.Common.{◌≡◌, ◌∙◌}
 use Rattle.rq_outside.specs.declared.pair.FileNo.TheVariants.{One, Two}
 use Rattle.rq_outside.specs.Pair.{disk_at}
-use Rattle.rq_wal.proofs.Settled.{gives_in, current_in, images_in, moments_in, new_of}
+use Rattle.rq_wal.proofs.Settled.{gives_in, current_in, images_in, moments_in, new_of, none_found, rest_in, unchanged_in, refused_so}
+use Rattle.rq_wal.proofs.Progress.{rose_later}
 use Rattle.rq_wal.proofs.Standing.{always_kept}
 use Rattle.rq_wal.proofs.opening.open.Goals as goal
 
@@ -33,3 +34,36 @@ returns-clause-any_moment g c told stored all =
     let means = g.D.Disk.means in
     moments_in means c.args.first.now c.args.disks.now c.find.new.disks c.settle.new.disks c.in_ok-found.found (c.in_ok-found.ensures.found told) (c.in_ok-found.ensures.one_moments told) (c.in_ok-found.ensures.two_moments told)
     c.settle.ensures.found c.settle.ensures.two (c.settle.ensures.moments told) (g.met.D.Disk.reads_an_image told (disk_at c.args.disks.now One)) (g.met.D.Disk.reads_an_image told (disk_at c.args.disks.now Two)) stored all
+
+pub returns-clause-at_rest : goal.returns-clause-at_rest
+returns-clause-at_rest g c =
+    let means = g.D.Disk.means in
+    rest_in means c.args.first.now g.D.Disk.told c.settle.new.disks c.settle.result
+    (λ told. current_in means c.args.first.now c.args.disks.now c.find.new.disks c.settle.new.disks c.in_ok-found.found c.settle.result (c.in_ok-found.ensures.found told) (c.in_ok-found.ensures.one told) (c.in_ok-found.ensures.two told)
+    (c.in_ok-found.ensures.one_durable told) (c.in_ok-found.ensures.two_durable told) c.settle.ensures.found c.settle.ensures.same c.settle.ensures.two
+    (λ none. new_of means c.args.first.now c.settle.new.disks c.settle.result (c.settle.ensures.file none) (c.settle.ensures.generation none) (c.settle.ensures.end none) (c.settle.ensures.fits none) (c.settle.ensures.stored none) (c.settle.ensures.written told none) (c.settle.ensures.at_rest told none)))
+
+pub returns-clause-unchanged : goal.returns-clause-unchanged
+returns-clause-unchanged g c told =
+    unchanged_in c.settle.result ((g.D.Disk.means (disk_at c.settle.new.disks One)).content ≡ (g.D.Disk.means (disk_at c.args.disks.now One)).content) c.settle.ensures.refusals (λ none. c.settle.ensures.no_memory told none ∙ c.in_ok-found.ensures.one told)
+
+pub returns-clause-refusals : goal.returns-clause-refusals
+returns-clause-refusals g c told = refused_so c.settle.result _ c.settle.ensures.refusals
+
+pub returns-clause-cause : goal.returns-clause-cause
+returns-clause-cause g c is = rose_later g.D.Disk.means c.args.disks.now c.find.new.disks c.settle.new.disks c.in_ok-found.ensures.later (c.settle.ensures.cause is)
+
+pub returns-clause-stored : goal.returns-clause-stored
+returns-clause-stored g c told shut shut' = c.settle.ensures.stored (none_found c.args.first.now _ _ c.in_ok-found.found (c.in_ok-found.ensures.found told) shut shut')
+
+pub returns-clause-file : goal.returns-clause-file
+returns-clause-file g c told shut shut' = c.settle.ensures.file (none_found c.args.first.now _ _ c.in_ok-found.found (c.in_ok-found.ensures.found told) shut shut')
+
+pub returns-clause-generation : goal.returns-clause-generation
+returns-clause-generation g c told shut shut' = c.settle.ensures.generation (none_found c.args.first.now _ _ c.in_ok-found.found (c.in_ok-found.ensures.found told) shut shut')
+
+pub returns-clause-end : goal.returns-clause-end
+returns-clause-end g c told shut shut' = c.settle.ensures.end (none_found c.args.first.now _ _ c.in_ok-found.found (c.in_ok-found.ensures.found told) shut shut')
+
+pub returns-clause-written : goal.returns-clause-written
+returns-clause-written g c told shut shut' = c.settle.ensures.written told (none_found c.args.first.now _ _ c.in_ok-found.found (c.in_ok-found.ensures.found told) shut shut')
