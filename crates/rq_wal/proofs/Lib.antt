@@ -10,6 +10,7 @@ mod FilesRead
 mod FramesRead
 mod Headers
 mod LocalFrames
+mod LogMore
 mod Moments
 mod Opened
 mod Progress

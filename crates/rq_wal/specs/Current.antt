@@ -8,11 +8,13 @@ use Rattle.rq_outside.specs.Pair.{other, disk_at}
 use Rattle.rq_wal.specs.declared.base.Base.{Base}
 use Rattle.rq_wal.specs.declared.base.Stored.{Stored}
 use Rattle.rq_wal.specs.declared.file.WalFile.{WalFile}
+use Rattle.rq_wal.specs.declared.frame.Frame.{Frame}
 use Rattle.rq_wal.specs.Gate.{EndsIn, IsAtRest}
 use Rattle.rq_wal.specs.Log.{IsLog}
 use Rattle.rq_wal.specs.Reading.{header_fault, pair_gives}
 use Rattle.rq_wal.specs.Replace.{generation_of}
 use Rattle.rq_wal.specs.Spelling.{base_bytes, file_bytes}
+use Rattle.rq_wal.specs.Stored.{applied_all}
 use Rattle.rq_wal.specs.WalFile.{wal_file, wal_end, wal_generation}
 
 -- Beside the current file, which has this number and this generation, the other one doesn't count: it is closed, or it
@@ -69,3 +71,8 @@ module _ {D F : Type 0} (means : D → DiskMeaning) where
   -- and whatever a crash since then left
   abbrev pub EachSinceGives : Base → DiskPair D F → DiskPair D F → Stored → Type 0
   EachSinceGives first old new stored = (one two : List ℕ) → (means new.one).since (means old.one).moment one → (means new.two).since (means old.two).moment two → pair_gives first one two ≡ Ok stored
+
+  -- and whatever a crash since then left stands for that with the first of these frames
+  abbrev pub EachSinceGivesSome : Base → DiskPair D F → DiskPair D F → Stored → List Frame → Type 0
+  EachSinceGivesSome first old new stored frames = (one two : List ℕ) → (means new.one).since (means old.one).moment one → (means new.two).since (means old.two).moment two
+      → (k : ℕ) × (k ≤ length frames) × (pair_gives first one two ≡ Ok (applied_all stored (take k frames)))
