@@ -80,9 +80,12 @@ module _ {D F : Type 0} (means : D → DiskMeaning) (first : Base) (old new : Di
       let content = (means (disk_at old no)).content in
       let some = leaves.each (file_at no one two) (since_at one two i1 i2 no) in
       let k = some.0 in
-      let image = now (file_at (other no) one two) (subst (λ (d : D). (means d).since (means (disk_at old (other no))).moment (file_at (other no) one two)) same (since_at one two i1 i2 (other no))) in
-      (k, some.1, pair_with first (wal_generation wal) (applied_all stored (take k frames)) (take (wal_end wal) content ++ flat_map gated (take k frames)) (file_at no one two)
-        (log_more first (wal_generation wal) stored (take (wal_end wal) content) (take k frames) current.log (allowed_take stored frames k allowed)) some.2 no one two refl (current.behind (file_at (other no) one two) image))
+      let image = now (file_at (other no) one two) (subst (λ (d : D). (means d).since (means (disk_at old (other no))).moment (file_at (other no) one two)) same (since_at one two i1 i2 (other no))) in (
+        k,
+        some.1,
+        pair_with first (wal_generation wal) (applied_all stored (take k frames)) (take (wal_end wal) content ++ flat_map gated (take k frames)) (file_at no one two)
+            (log_more first (wal_generation wal) stored (take (wal_end wal) content) (take k frames) current.log (allowed_take stored frames k allowed)) some.2 no one two refl (current.behind (file_at (other no) one two) image),
+      )
 
   kept_files : (means (disk_at new (wal_file wal))).content ≡ (means (disk_at old (wal_file wal))).content → IsAtRest (means (disk_at new (wal_file wal))) (wal_end wal) → IsCurrent means first new wal stored
   kept_files is rest = record {

@@ -117,7 +117,7 @@ is_magic file = get_or file 1 0 == 82 && (get_or file 2 0 == 81 && (get_or file 
 unfoldable pub header_fault : ℕ → List ℕ → Option OpenError
 header_fault number file =
     if is_magic file then (if get_or file 6 0 == 1 then (if is_small (from_le_bytes w64 (take 8 (drop 7 file))) then None else Some (leaves_at number file 7))
-        else Some (Version (get_or file 6 0))) else Some (leaves_at number file 1)
+    else Some (Version (get_or file 6 0))) else Some (leaves_at number file 1)
 
 -- what is stored in an open file behind a header that is right
 abbrev pub stored_of : ℕ → List ℕ → Result (Stored × List ℕ) Wrong → Result Stored OpenError

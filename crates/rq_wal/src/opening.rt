@@ -140,10 +140,7 @@ fn begin<D: Disk>(
 }
 
 /// Syncs both files, and reads them.
-fn look<D: Disk>(
-    alloc: Global,
-    disks: &mut DiskPair<D>,
-) -> Result<(Vec<u8>, Vec<u8>), OpenError>
+fn look<D: Disk>(alloc: Global, disks: &mut DiskPair<D>) -> Result<(Vec<u8>, Vec<u8>), OpenError>
     ensures one { IsTrue D.told → (D.means (disk_at disks.new FileNo.One)).content ≡ (D.means (disk_at disks.old FileNo.One)).content }
     ensures two { IsTrue D.told → (D.means (disk_at disks.new FileNo.Two)).content ≡ (D.means (disk_at disks.old FileNo.Two)).content }
     ensures one_bytes { IsTrue D.told → IfOk result (λ read. read.0.items ≡ (D.means (disk_at disks.old FileNo.One)).content) }
