@@ -11,15 +11,15 @@ use Rattle.rq_wal.specs.Spelling.{base_bytes, body_bytes}
 use Rattle.rq_wal.specs.Replace.{in_header, generation_of, is_open}
 use Rattle.rq_wal.proofs.Headers.{short, shut_header}
 
-long_number : (n : ℕ) → length (u64_bytes n) ≡ 8
+pub long_number : (n : ℕ) → length (u64_bytes n) ≡ 8
 unfolding u64_bytes
 long_number n = refl
 
-reads_number : (n : ℕ) → n < 2 ^ 64 → from_le_bytes w64 (u64_bytes n) ≡ n
+pub reads_number : (n : ℕ) → n < 2 ^ 64 → from_le_bytes w64 (u64_bytes n) ≡ n
 unfolding u64_bytes
 reads_number n lt = from_le_bytes-to_le_bytes_8 n lt
 
-not_short : (header : List ℕ) → 23 ≤ length header → nat_lt (length header) 23 ≡ false
+pub not_short : (header : List ℕ) → 23 ≤ length header → nat_lt (length header) 23 ≡ false
 not_short header le = grind (arith, nat_tests)
 
 -- a header by its parts
@@ -46,16 +46,16 @@ new_generation generation base z lt =
     header_reads generation (take 23 (front ++ (tail ++ z))) front number size refl (long_number generation) (omega (arith, long_number (length (base_bytes base)))) refl
     (ap (λ (l : List ℕ). front ++ l) cut) refl (reads_number generation lt)
 
-and_true : (a b : Bool) → (a && b) ≡ true → (a ≡ true) × (b ≡ true)
+pub and_true : (a b : Bool) → (a && b) ≡ true → (a ≡ true) × (b ≡ true)
 and_true true b h = (refl, h)
 and_true false b h = absurd (cc)
 
 -- the test for an open file
-first_byte : (file : List ℕ) → get_or (take 23 file) 0 0 ≡ get_or file 0 0
+pub first_byte : (file : List ℕ) → get_or (take 23 file) 0 0 ≡ get_or file 0 0
 first_byte [] = refl
 first_byte (x ∷ file) = refl
 
-is_open_by : (file : List ℕ) → 23 ≤ length file → get_or file 0 0 ≡ 1 → is_open file ≡ true
+pub is_open_by : (file : List ℕ) → 23 ≤ length file → get_or file 0 0 ≡ 1 → is_open file ≡ true
 is_open_by file le one =
     let long : nat_le 23 (length file) ≡ true = grind (arith, nat_tests) in
     let gate : nat_eq (get_or file 0 0) 1 ≡ true = ap (λ (n : ℕ). nat_eq n 1) one in

@@ -1,7 +1,11 @@
+pub mod Current
 pub mod Gate
 pub mod Later
+pub mod Log
 pub mod Pieces
+pub mod Reading
 pub mod Replace
+pub mod Rules
 pub mod Spelling
 pub mod Stored
 pub mod WalFile

@@ -4,7 +4,12 @@ ghost use Rattle.std.specs.List.{flat_map};
 ghost use Rattle.rq_outside.specs.Disk.{LeavesOnly, HasRoom, Uses, Stays, Elapses};
 ghost use Rattle.rq_outside.specs.Pair.{other, disk_at, arm_of, own_faults, UsedCalls, PairCause};
 ghost use Rattle.rq_wal.specs.declared.frame.Frame.{Frame};
+ghost use Rattle.rq_wal.specs.declared.base.Base.{Base};
+ghost use Rattle.rq_wal.specs.declared.base.Stored.{Stored};
+ghost use Rattle.rq_wal.specs.Current.{IsCurrent, EachImageGives, EachSinceGivesSome};
 ghost use Rattle.rq_wal.specs.Gate.{IsAtRest, HasSomeOf};
+ghost use Rattle.rq_wal.specs.Rules.{AreAllowed};
+ghost use Rattle.rq_wal.specs.Stored.{applied_all};
 ghost use Rattle.rq_wal.specs.Pieces.{bytes_of};
 ghost use Rattle.rq_wal.specs.Spelling.{piece_of, gated};
 
@@ -100,6 +105,7 @@ impl WalFile {
         ensures other { disk_at disks.new (other (wal_file self.old)) ≡ disk_at disks.old (other (wal_file self.old)) }
         ensures same { IsTrue D.told → Stays (D.means (disk_at disks.old (wal_file self.old))) (D.means (disk_at disks.new (wal_file self.old))) }
         ensures at_rest { IsTrue D.told → IsAtRest (D.means (disk_at disks.old (wal_file self.old))) (wal_end self.old) → IsAtRest (D.means (disk_at disks.new (wal_file self.new))) (wal_end self.new) }
+        ensures current { IsTrue D.told → (first : Base) (stored : Stored) → IsCurrent D.means first disks.old self.old stored → IsCurrent D.means first disks.new self.new stored }
         ensures time { IsTrue D.told → OnOk result (Elapses (D.means (disk_at disks.old (wal_file self.old))) (D.means (disk_at disks.new (wal_file self.old)))) }
         ensures faults { (D.means (disk_at disks.new (wal_file self.old))).faults ≡ (D.means (disk_at disks.old (wal_file self.old))).faults }
         ensures arm { arm_of disks.new ≡ arm_of disks.old }
@@ -124,6 +130,9 @@ impl WalFile {
         ensures at_rest { IfOk result (λ wal. IsTrue D.told → IsAtRest (D.means (disk_at disks.new (wal_file wal))) (wal_end wal)) }
         ensures written { IsTrue D.told → (frames : List Frame) → batch ≡ map piece_of frames → IfOk result (λ wal. take (wal_end wal) (D.means (disk_at disks.new (wal_file self))).content ≡ take (wal_end self) (D.means (disk_at disks.old (wal_file self))).content ++ flat_map gated frames) }
         ensures any_moment { IsTrue D.told → (frames : List Frame) → batch ≡ map piece_of frames → LeavesOnly (D.means (disk_at disks.old (wal_file self))) (D.means (disk_at disks.new (wal_file self))) (HasSomeOf (take (wal_end self) (D.means (disk_at disks.old (wal_file self))).content) frames) }
+        ensures current { IsTrue D.told → (first : Base) (stored : Stored) (frames : List Frame) → batch ≡ map piece_of frames → AreAllowed stored frames → IsCurrent D.means first disks.old self stored → IfOk result (λ wal. IsCurrent D.means first disks.new wal (applied_all stored frames)) }
+        ensures images { IsTrue D.told → (first : Base) (stored : Stored) (frames : List Frame) → batch ≡ map piece_of frames → AreAllowed stored frames → IsCurrent D.means first disks.old self stored → OnOk result (EachImageGives D.means first disks.new (applied_all stored frames)) }
+        ensures some_stand { IsTrue D.told → (first : Base) (stored : Stored) (frames : List Frame) → batch ≡ map piece_of frames → AreAllowed stored frames → IsCurrent D.means first disks.old self stored → EachSinceGivesSome D.means first disks.old disks.new stored frames }
         ensures cause { PairCause D.means disks.old disks.new result }
         ensures calls { OnOk result (UsedCalls (4 * length batch) (arm_of disks.old) (arm_of disks.new)) }
     {

@@ -4,11 +4,14 @@
 
 mod appending;
 mod base;
+mod choosing;
 mod error;
 mod file;
 mod frame;
 mod framing;
+mod laws;
 mod opening;
+mod reading;
 mod replacing;
 mod spelling;
 mod synced;
@@ -17,6 +20,7 @@ pub use base::{Base, Stored};
 pub use error::OpenError;
 pub use file::{Batch, WalFile};
 pub use frame::Frame;
+pub use laws::logs_are_read_as_written;
 pub use opening::open;
 
 #[cfg(test)]

@@ -1,16 +1,20 @@
 //! Opening a pair.
-ghost use Rattle.std.specs.Prelude.{◌≡◌, ◌≢◌, ◌⊎◌, ◌≤◌, ◌<◌, ◌+◌, [], length, true, false, Some, None, IsTrue, IfOk, IfErr, OnOk, OnErr, IsErrOf};
-ghost use Rattle.rq_outside.specs.Disk.{Only, Stays};
+ghost use Rattle.std.specs.Prelude.{◌≡◌, ◌≢◌, ◌⊎◌, ◌≤◌, ◌<◌, ◌+◌, ◌^◌, [], length, true, false, Some, None, Ok, Err, IsTrue, IfOk, IfErr, OnOk, OnErr, IfSome, OnSome, IsErrOf};
+ghost use Rattle.rq_outside.specs.Disk.{Only, Stays, LeavesOnly};
 ghost use Rattle.rq_outside.specs.Pair.{other, disk_at, PairRose};
 ghost use Rattle.rq_wal.specs.Later.{Later};
+ghost use Rattle.rq_wal.specs.declared.base.Stored.{Stored};
 ghost use Rattle.rq_wal.specs.declared.error.OpenError.TheVariants as errors;
+ghost use Rattle.rq_wal.specs.Current.{IsBegun, IsFound, IsCurrent, EachImageGives, EachSinceGives};
 ghost use Rattle.rq_wal.specs.Gate.{IsAtRest};
-ghost use Rattle.rq_wal.specs.Replace.{is_open};
-ghost use Rattle.rq_wal.specs.Spelling.{front_bytes, file_bytes};
+ghost use Rattle.rq_wal.specs.Reading.{pair_gives};
+ghost use Rattle.rq_wal.specs.Replace.{is_open, generation_of};
+ghost use Rattle.rq_wal.specs.Spelling.{base_bytes, front_bytes, file_bytes};
 ghost use Rattle.rq_wal.specs.Stored.{IsBase, stored_after};
 ghost use Rattle.rq_wal.specs.WalFile.{wal_file, wal_end, wal_generation};
 
 use crate::base::{Base, Stored, start};
+use crate::choosing::choose;
 use crate::error::OpenError;
 use crate::file::WalFile;
 use crate::replacing::{begin_replace, finish_replace};
@@ -19,29 +23,109 @@ use rq_outside::{Disk, DiskPair, FileNo};
 use rq_values::TryCopy;
 use std::alloc::Global;
 
-/// Opens a pair of which neither file is open: syncs both files, reads them, and writes file one with `first` as its
-/// base, by eight changing calls. All memory is taken before those.
+/// Opens a pair: syncs both files, reads them, and takes the current one. Where neither is open it writes file one with
+/// `first` as its base, by eight changing calls, for which all memory is taken before. The work is linear in what the files hold.
+///
+/// A base is never replaced yet, so a file whose base isn't `first` leaves the format at its first byte that differs.
 pub fn open<D: Disk>(
     alloc: Global,
     disks: &mut DiskPair<D>,
     first: &Base,
 ) -> Result<(WalFile, Stored), OpenError>
     requires base { IsBase first.now }
-    requires one_closed { IsTrue D.told → is_open (D.means (disk_at disks.old FileNo.One)).content ≡ false }
-    requires two_closed { IsTrue D.told → is_open (D.means (disk_at disks.old FileNo.Two)).content ≡ false }
+    ensures gives { IsTrue D.told → IfOk result (λ opened. pair_gives first.now (D.means (disk_at disks.old FileNo.One)).content (D.means (disk_at disks.old FileNo.Two)).content ≡ Ok opened.1) }
+    ensures current { IsTrue D.told → IfOk result (λ opened. IsCurrent D.means first.now disks.new opened.0 opened.1) }
+    ensures images { IsTrue D.told → IfOk result (λ opened. EachImageGives D.means first.now disks.new opened.1) }
+    ensures any_moment { IsTrue D.told → (stored : Stored) → EachImageGives D.means first.now disks.old stored → EachSinceGives D.means first.now disks.old disks.new stored }
+    ensures refusals { IsTrue D.told → IfErr result (λ e. (e ≡ errors.Disk) ⊎ (e ≡ errors.NoMemory) ⊎ (pair_gives first.now (D.means (disk_at disks.old FileNo.One)).content (D.means (disk_at disks.old FileNo.Two)).content ≡ Err e)) }
+    ensures unchanged { IsTrue D.told → IfErr result (λ e. (e ≡ errors.Disk) ⊎ ((D.means (disk_at disks.new FileNo.One)).content ≡ (D.means (disk_at disks.old FileNo.One)).content)) }
+    ensures two { IsTrue D.told → (D.means (disk_at disks.new FileNo.Two)).content ≡ (D.means (disk_at disks.old FileNo.Two)).content }
+    ensures stored { IsTrue D.told → is_open (D.means (disk_at disks.old FileNo.One)).content ≡ false → is_open (D.means (disk_at disks.old FileNo.Two)).content ≡ false → IfOk result (λ opened. opened.1 ≡ stored_after first.now []) }
+    ensures file { IsTrue D.told → is_open (D.means (disk_at disks.old FileNo.One)).content ≡ false → is_open (D.means (disk_at disks.old FileNo.Two)).content ≡ false → IfOk result (λ opened. wal_file opened.0 ≡ FileNo.One) }
+    ensures generation { IsTrue D.told → is_open (D.means (disk_at disks.old FileNo.One)).content ≡ false → is_open (D.means (disk_at disks.old FileNo.Two)).content ≡ false → IfOk result (λ opened. wal_generation opened.0 ≡ 1) }
+    ensures end { IsTrue D.told → is_open (D.means (disk_at disks.old FileNo.One)).content ≡ false → is_open (D.means (disk_at disks.old FileNo.Two)).content ≡ false → IfOk result (λ opened. wal_end opened.0 ≡ length (front_bytes 1 first.now [])) }
+    ensures written { IsTrue D.told → is_open (D.means (disk_at disks.old FileNo.One)).content ≡ false → is_open (D.means (disk_at disks.old FileNo.Two)).content ≡ false → OnOk result ((D.means (disk_at disks.new FileNo.One)).content ≡ file_bytes 1 first.now []) }
+    ensures at_rest { IfOk result (λ opened. IsTrue D.told → IsAtRest (D.means (disk_at disks.new (wal_file opened.0))) (wal_end opened.0)) }
+    ensures cause { IsErrOf result errors.Disk → PairRose D.means disks.old disks.new }
+{
+    let found = find(alloc, disks, first)?;
+    settle(alloc, disks, first, found)
+}
+
+/// The file that was found, or a new one.
+fn settle<D: Disk>(
+    alloc: Global,
+    disks: &mut DiskPair<D>,
+    first: &Base,
+    found: Option<(WalFile, Stored)>,
+) -> Result<(WalFile, Stored), OpenError>
+    requires closed { IsTrue D.told → found ≡ None → generation_of (D.means (disk_at disks.old FileNo.One)).content ≡ None }
+    requires durable { IsTrue D.told → Only (D.means (disk_at disks.old FileNo.One)).content (D.means (disk_at disks.old FileNo.One)).images }
+    ensures found { OnSome found (disks.new ≡ disks.old) }
+    ensures same { IfSome found (λ opened. result ≡ Ok opened) }
+    ensures two { disk_at disks.new FileNo.Two ≡ disk_at disks.old FileNo.Two }
+    ensures stored { found ≡ None → IfOk result (λ opened. opened.1 ≡ stored_after first.now []) }
+    ensures file { found ≡ None → IfOk result (λ opened. wal_file opened.0 ≡ FileNo.One) }
+    ensures generation { found ≡ None → IfOk result (λ opened. wal_generation opened.0 ≡ 1) }
+    ensures end { found ≡ None → IfOk result (λ opened. wal_end opened.0 ≡ length (front_bytes 1 first.now [])) }
+    ensures fits { found ≡ None → OnOk result (length (base_bytes first.now) < 2 ^ 64) }
+    ensures written { IsTrue D.told → found ≡ None → OnOk result ((D.means (disk_at disks.new FileNo.One)).content ≡ file_bytes 1 first.now []) }
+    ensures at_rest { IsTrue D.told → found ≡ None → IfOk result (λ opened. IsAtRest (D.means (disk_at disks.new FileNo.One)) (wal_end opened.0)) }
+    ensures moments { IsTrue D.told → found ≡ None → LeavesOnly (D.means (disk_at disks.old FileNo.One)) (D.means (disk_at disks.new FileNo.One)) (IsBegun first.now) }
+    ensures no_memory { IsTrue D.told → IsErrOf result errors.NoMemory → (D.means (disk_at disks.new FileNo.One)).content ≡ (D.means (disk_at disks.old FileNo.One)).content }
+    ensures refusals { IfErr result (λ e. (e ≡ errors.Disk) ⊎ (e ≡ errors.NoMemory)) }
+    ensures later { Later D.means disks.old disks.new }
+    ensures cause { IsErrOf result errors.Disk → PairRose D.means disks.old disks.new }
+{
+    match found {
+        Some(opened) => Ok(opened),
+        None => begin(alloc, disks, first),
+    }
+}
+
+/// Syncs both files, reads them, and chooses the current one.
+fn find<D: Disk>(
+    alloc: Global,
+    disks: &mut DiskPair<D>,
+    first: &Base,
+) -> Result<Option<(WalFile, Stored)>, OpenError>
+    ensures found { IsTrue D.told → IfOk result (λ found. IsFound first.now (D.means (disk_at disks.old FileNo.One)).content (D.means (disk_at disks.old FileNo.Two)).content found) }
+    ensures refused { IsTrue D.told → IfErr result (λ e. (e ≡ errors.Disk) ⊎ (e ≡ errors.NoMemory) ⊎ (pair_gives first.now (D.means (disk_at disks.old FileNo.One)).content (D.means (disk_at disks.old FileNo.Two)).content ≡ Err e)) }
+    ensures one { IsTrue D.told → (D.means (disk_at disks.new FileNo.One)).content ≡ (D.means (disk_at disks.old FileNo.One)).content }
+    ensures two { IsTrue D.told → (D.means (disk_at disks.new FileNo.Two)).content ≡ (D.means (disk_at disks.old FileNo.Two)).content }
+    ensures one_durable { IsTrue D.told → OnOk result (Only (D.means (disk_at disks.new FileNo.One)).content (D.means (disk_at disks.new FileNo.One)).images) }
+    ensures two_durable { IsTrue D.told → OnOk result (Only (D.means (disk_at disks.new FileNo.Two)).content (D.means (disk_at disks.new FileNo.Two)).images) }
+    ensures one_moments { IsTrue D.told → LeavesOnly (D.means (disk_at disks.old FileNo.One)) (D.means (disk_at disks.new FileNo.One)) (D.means (disk_at disks.old FileNo.One)).images }
+    ensures two_moments { IsTrue D.told → LeavesOnly (D.means (disk_at disks.old FileNo.Two)) (D.means (disk_at disks.new FileNo.Two)) (D.means (disk_at disks.old FileNo.Two)).images }
+    ensures later { Later D.means disks.old disks.new }
+    ensures cause { IsErrOf result errors.Disk → PairRose D.means disks.old disks.new }
+{
+    let (one, two) = look(alloc, disks)?;
+    choose(alloc, first, &one, &two)
+}
+
+/// Writes file one with this base; all memory is taken before.
+fn begin<D: Disk>(
+    alloc: Global,
+    disks: &mut DiskPair<D>,
+    first: &Base,
+) -> Result<(WalFile, Stored), OpenError>
+    requires closed { IsTrue D.told → generation_of (D.means (disk_at disks.old FileNo.One)).content ≡ None }
+    requires durable { IsTrue D.told → Only (D.means (disk_at disks.old FileNo.One)).content (D.means (disk_at disks.old FileNo.One)).images }
+    ensures two { disk_at disks.new FileNo.Two ≡ disk_at disks.old FileNo.Two }
     ensures stored { IfOk result (λ opened. opened.1 ≡ stored_after first.now []) }
     ensures file { IfOk result (λ opened. wal_file opened.0 ≡ FileNo.One) }
     ensures generation { IfOk result (λ opened. wal_generation opened.0 ≡ 1) }
     ensures end { IfOk result (λ opened. wal_end opened.0 ≡ length (front_bytes 1 first.now [])) }
+    ensures fits { OnOk result (length (base_bytes first.now) < 2 ^ 64) }
     ensures written { IsTrue D.told → OnOk result ((D.means (disk_at disks.new FileNo.One)).content ≡ file_bytes 1 first.now []) }
-    ensures at_rest { IfOk result (λ opened. IsTrue D.told → IsAtRest (D.means (disk_at disks.new (wal_file opened.0))) (wal_end opened.0)) }
-    ensures two { IsTrue D.told → (D.means (disk_at disks.new FileNo.Two)).content ≡ (D.means (disk_at disks.old FileNo.Two)).content }
-    ensures two_durable { IsTrue D.told → OnOk result (Only (D.means (disk_at disks.new FileNo.Two)).content (D.means (disk_at disks.new FileNo.Two)).images) }
+    ensures at_rest { IfOk result (λ opened. IsTrue D.told → IsAtRest (D.means (disk_at disks.new FileNo.One)) (wal_end opened.0)) }
+    ensures moments { IsTrue D.told → LeavesOnly (D.means (disk_at disks.old FileNo.One)) (D.means (disk_at disks.new FileNo.One)) (IsBegun first.now) }
     ensures no_memory { IsTrue D.told → IsErrOf result errors.NoMemory → (D.means (disk_at disks.new FileNo.One)).content ≡ (D.means (disk_at disks.old FileNo.One)).content }
-    ensures refusals { IsTrue D.told → IfErr result (λ e. (e ≡ errors.Disk) ⊎ (e ≡ errors.NoMemory)) }
+    ensures refusals { IfErr result (λ e. (e ≡ errors.Disk) ⊎ (e ≡ errors.NoMemory)) }
+    ensures later { Later D.means disks.old disks.new }
     ensures cause { IsErrOf result errors.Disk → PairRose D.means disks.old disks.new }
 {
-    look(alloc, disks)?;
     let stored = start(alloc, first.copy()?);
     let body = body(alloc, 1, first)?;
     disks.ready(FileNo::One, body.len() as u64 + 2, 8)?;
@@ -55,58 +139,42 @@ pub fn open<D: Disk>(
     Ok((wal, stored))
 }
 
-/// Syncs both files, reads them, and refuses one that is open.
-fn look<D: Disk>(alloc: Global, disks: &mut DiskPair<D>) -> Result<(), OpenError>
-    requires one_closed { IsTrue D.told → is_open (D.means (disk_at disks.old FileNo.One)).content ≡ false }
-    requires two_closed { IsTrue D.told → is_open (D.means (disk_at disks.old FileNo.Two)).content ≡ false }
+/// Syncs both files, and reads them.
+fn look<D: Disk>(alloc: Global, disks: &mut DiskPair<D>) -> Result<(Vec<u8>, Vec<u8>), OpenError>
     ensures one { IsTrue D.told → (D.means (disk_at disks.new FileNo.One)).content ≡ (D.means (disk_at disks.old FileNo.One)).content }
     ensures two { IsTrue D.told → (D.means (disk_at disks.new FileNo.Two)).content ≡ (D.means (disk_at disks.old FileNo.Two)).content }
-    ensures later { Later D.means disks.old disks.new }
+    ensures one_bytes { IsTrue D.told → IfOk result (λ read. read.0.items ≡ (D.means (disk_at disks.old FileNo.One)).content) }
+    ensures two_bytes { IsTrue D.told → IfOk result (λ read. read.1.items ≡ (D.means (disk_at disks.old FileNo.Two)).content) }
     ensures one_durable { IsTrue D.told → OnOk result (Only (D.means (disk_at disks.new FileNo.One)).content (D.means (disk_at disks.new FileNo.One)).images) }
     ensures two_durable { IsTrue D.told → OnOk result (Only (D.means (disk_at disks.new FileNo.Two)).content (D.means (disk_at disks.new FileNo.Two)).images) }
-    ensures refusals { IsTrue D.told → IfErr result (λ e. (e ≡ errors.Disk) ⊎ (e ≡ errors.NoMemory)) }
+    ensures one_moments { IsTrue D.told → LeavesOnly (D.means (disk_at disks.old FileNo.One)) (D.means (disk_at disks.new FileNo.One)) (D.means (disk_at disks.old FileNo.One)).images }
+    ensures two_moments { IsTrue D.told → LeavesOnly (D.means (disk_at disks.old FileNo.Two)) (D.means (disk_at disks.new FileNo.Two)) (D.means (disk_at disks.old FileNo.Two)).images }
+    ensures later { Later D.means disks.old disks.new }
+    ensures refusals { IfErr result (λ e. (e ≡ errors.Disk) ⊎ (e ≡ errors.NoMemory)) }
     ensures cause { IsErrOf result errors.Disk → PairRose D.means disks.old disks.new }
 {
-    sync_made(disks, FileNo::One)?;
-    sync_made(disks, FileNo::Two)?;
-    read_closed(alloc, disks, FileNo::One, 1)?;
-    read_closed(alloc, disks, FileNo::Two, 2)?;
-    Ok(())
+    let one = read_synced(alloc, disks, FileNo::One)?;
+    let two = read_synced(alloc, disks, FileNo::Two)?;
+    Ok((one, two))
 }
 
-/// Reads a file, and refuses it where it is open.
-fn read_closed<D: Disk>(
+/// Syncs a file, and reads it.
+fn read_synced<D: Disk>(
     alloc: Global,
     disks: &mut DiskPair<D>,
     file: FileNo,
-    number: u8,
-) -> Result<(), OpenError>
-    requires { IsTrue D.told → is_open (D.means (disk_at disks.old file)).content ≡ false }
+) -> Result<Vec<u8>, OpenError>
     ensures other { disk_at disks.new (other file) ≡ disk_at disks.old (other file) }
-    ensures same { IsTrue D.told → Stays (D.means (disk_at disks.old file)) (D.means (disk_at disks.new file)) }
-    ensures refusals { IsTrue D.told → IfErr result (λ e. (e ≡ errors.Disk) ⊎ (e ≡ errors.NoMemory)) }
+    ensures content { IsTrue D.told → (D.means (disk_at disks.new file)).content ≡ (D.means (disk_at disks.old file)).content }
+    ensures bytes { IsTrue D.told → IfOk result (λ bytes. bytes.items ≡ (D.means (disk_at disks.old file)).content) }
+    ensures durable { IsTrue D.told → OnOk result (Only (D.means (disk_at disks.new file)).content (D.means (disk_at disks.new file)).images) }
+    ensures moments { IsTrue D.told → LeavesOnly (D.means (disk_at disks.old file)) (D.means (disk_at disks.new file)) (D.means (disk_at disks.old file)).images }
     ensures later { Later D.means disks.old disks.new }
+    ensures refusals { IfErr result (λ e. (e ≡ errors.Disk) ⊎ (e ≡ errors.NoMemory)) }
     ensures cause { IsErrOf result errors.Disk → PairRose D.means disks.old disks.new }
 {
-    let bytes = read_whole(alloc, disks, file)?;
-    refuse_open(number, &bytes)?;
-    Ok(())
-}
-
-/// A file that is open can't be read yet.
-fn refuse_open(file: u8, bytes: &[u8]) -> Result<(), OpenError>
-    ensures refused { OnErr result (is_open bytes.now ≡ true) }
-    ensures passed { OnOk result (is_open bytes.now ≡ false) }
-    ensures error { IfErr result (λ e. e ≡ errors.NotAWal file 0 (Some 1)) }
-{
-    if bytes.len() >= 23 && bytes[0] == 1 {
-        return Err(OpenError::NotAWal {
-            file,
-            place: 0,
-            byte: Some(1),
-        });
-    }
-    Ok(())
+    sync_made(disks, file)?;
+    read_whole(alloc, disks, file)
 }
 
 /// Syncs a file.
@@ -114,6 +182,7 @@ fn sync_made<D: Disk>(disks: &mut DiskPair<D>, file: FileNo) -> Result<(), OpenE
     ensures other { disk_at disks.new (other file) ≡ disk_at disks.old (other file) }
     ensures content { IsTrue D.told → (D.means (disk_at disks.new file)).content ≡ (D.means (disk_at disks.old file)).content }
     ensures durable { IsTrue D.told → OnOk result (Only (D.means (disk_at disks.new file)).content (D.means (disk_at disks.new file)).images) }
+    ensures moments { IsTrue D.told → LeavesOnly (D.means (disk_at disks.old file)) (D.means (disk_at disks.new file)) (D.means (disk_at disks.old file)).images }
     ensures refusals { IfErr result (λ e. (e ≡ errors.Disk) ⊎ (e ≡ errors.NoMemory)) }
     ensures later { Later D.means disks.old disks.new }
     ensures cause { IsErrOf result errors.Disk → PairRose D.means disks.old disks.new }
@@ -132,6 +201,7 @@ fn read_whole<D: Disk>(
     ensures other { disk_at disks.new (other file) ≡ disk_at disks.old (other file) }
     ensures bytes { IsTrue D.told → IfOk result (λ bytes. bytes.items ≡ (D.means (disk_at disks.old file)).content) }
     ensures same { IsTrue D.told → Stays (D.means (disk_at disks.old file)) (D.means (disk_at disks.new file)) }
+    ensures moments { IsTrue D.told → LeavesOnly (D.means (disk_at disks.old file)) (D.means (disk_at disks.new file)) (D.means (disk_at disks.old file)).images }
     ensures refusals { IfErr result (λ e. (e ≡ errors.Disk) ⊎ (e ≡ errors.NoMemory)) }
     ensures later { Later D.means disks.old disks.new }
     ensures cause { IsErrOf result errors.Disk → PairRose D.means disks.old disks.new }

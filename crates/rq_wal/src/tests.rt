@@ -1,6 +1,4 @@
-ghost use Rattle.std.specs.Prelude.{◌≡◌, false, IsTrue, IfOk};
-ghost use Rattle.rq_outside.specs.Pair.{disk_at};
-ghost use Rattle.rq_wal.specs.Replace.{is_open};
+ghost use Rattle.std.specs.Prelude.{IfOk};
 ghost use Rattle.rq_wal.specs.Stored.{IsBase};
 
 use super::*;
@@ -97,9 +95,7 @@ fn begun<D: Disk>(
     frames: &[Frame],
     more: &[Frame],
 ) -> Result<WalFile, OpenError>
-    requires base { IsBase first.now }
-    requires one_closed { IsTrue D.told → is_open (D.means (disk_at disks.old FileNo.One)).content ≡ false }
-    requires two_closed { IsTrue D.told → is_open (D.means (disk_at disks.old FileNo.Two)).content ≡ false }
+    requires { IsBase first.now }
 {
     let (mut wal, _stored) = open(alloc, disks, first)?;
     let batch = wal.ready(alloc, disks, frames)?;
@@ -136,5 +132,70 @@ fn the_file_of_n1_byte_for_byte(rt: HostRuntime) -> Result<(), Fail> {
     let (elected, gate) = file_of_n1(alloc, &election)?;
     assert_eq!(rt; elected.as_slice(), ELECTED);
     assert_eq!(rt; (elected.len(), gate), (175, 174));
+    Ok(())
+}
+
+// What opening a pair answers, of which file one has these bytes and file two none: the boot that is stored and the place
+// of the last gate.
+fn opened(alloc: Global, bytes: &[u8]) -> Result<Result<(u64, u64), OpenError>, Fail> {
+    let one = MemDisk::new(alloc, Vec::from_slice(alloc, bytes)?, Vec::new(alloc))
+        .ok()
+        .ok_or("memory")?;
+    let two = MemDisk::new(alloc, Vec::new(alloc), Vec::new(alloc))
+        .ok()
+        .ok_or("memory")?;
+    let mut pair = DiskPair::new(one, two);
+    let first = first_base(alloc)?;
+    match open(alloc, &mut pair, &first) {
+        Ok((wal, stored)) => Ok(Ok((stored.boot, wal.end()))),
+        Err(error) => Ok(Err(error)),
+    }
+}
+
+#[test]
+fn a_damaged_file(rt: HostRuntime) -> Result<(), Fail> {
+    let alloc = rt.alloc();
+    assert_eq!(rt; opened(alloc, STARTED)?, Ok((1, 126)));
+    for (place, byte, answer) in [
+        (
+            113,
+            9,
+            Err(OpenError::NotAWal {
+                file: 1,
+                place: 113,
+                byte: Some(9),
+            }),
+        ),
+        (112, 0xff, Ok((0, 112))),
+        (6, 7, Err(OpenError::Version(7))),
+        (0, 0, Ok((0, 112))),
+    ] {
+        let mut bytes = Vec::from_slice(alloc, STARTED)?;
+        if let Some(at) = bytes.get_mut(place) {
+            *at = byte;
+        }
+        assert_eq!(rt; opened(alloc, &bytes)?, answer);
+    }
+    Ok(())
+}
+
+#[test]
+fn a_file_cut_at_each_length(rt: HostRuntime) -> Result<(), Fail> {
+    let alloc = rt.alloc();
+    let mut bytes = Vec::from_slice(alloc, STARTED)?;
+    assert_eq!(rt; opened(alloc, &bytes)?, Ok((1, 126)));
+    for len in (0..127usize).rev() {
+        bytes.truncate(len);
+        let answer = if len < 23 {
+            Ok((0, 112))
+        } else {
+            Err(OpenError::NotAWal {
+                file: 1,
+                place: len as u64,
+                byte: None,
+            })
+        };
+        assert_eq!(rt; opened(alloc, &bytes)?, answer);
+    }
     Ok(())
 }

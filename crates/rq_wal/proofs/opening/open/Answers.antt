@@ -1,23 +1,69 @@
-use Rattle.std.proofs.Common.{◌∷◌, [], List, ℕ, length, inl, ◌∙◌, ap, arith, length-append}
-use Rattle.rq_outside.specs.declared.pair.FileNo.TheVariants.{One}
+use Rattle.std.proofs.Common.{◌≡◌, ◌∙◌}
+use Rattle.rq_outside.specs.declared.pair.FileNo.TheVariants.{One, Two}
 use Rattle.rq_outside.specs.Pair.{disk_at}
-use Rattle.rq_wal.specs.Replace.{is_open, generation_of}
-use Rattle.rq_wal.specs.Spelling.{body_bytes}
-use Rattle.rq_wal.proofs.AtRest.{ends_at_rest}
-use Rattle.rq_wal.proofs.Opened.{closed_file, new_generation}
+use Rattle.rq_wal.proofs.Settled.{gives_in, current_in, images_in, moments_in, new_of, none_found, rest_in, unchanged_in, refused_so}
+use Rattle.rq_wal.proofs.Progress.{rose_later}
+use Rattle.rq_wal.proofs.Standing.{always_kept}
 use Rattle.rq_wal.proofs.opening.open.Goals as goal
 
-pub begin_replace-requires-clause-below : goal.begin_replace-requires-clause-below
-begin_replace-requires-clause-below g c κs live told =
-    inl (closed_file _ (ap is_open ((c.ready.ensures.same told).content ∙ c.in_ok-look.ensures.one told) ∙ c.requires.one_closed told))
+pub returns-in_err-found-clause-any_moment : goal.returns-in_err-found-clause-any_moment
+returns-in_err-found-clause-any_moment g c told stored all =
+    always_kept g.D.Disk.means c.args.first.now stored c.args.disks.now all c.find.new.disks (c.find.ensures.one_moments told) (c.find.ensures.two_moments told)
 
-pub finish_replace-requires-clause-rest : goal.finish_replace-requires-clause-rest
-finish_replace-requires-clause-rest g c κs live =
-    ap (λ (l : List ℕ). generation_of (1 ∷ l)) (c.deref.ensures.value ∙ c.in_ok-body.ensures) ∙ new_generation 1 c.args.first.now (0 ∷ []) (omega arith)
+pub returns-clause-gives : goal.returns-clause-gives
+returns-clause-gives g c told =
+    gives_in c.args.first.now (g.D.Disk.means (disk_at c.args.disks.now One)).content (g.D.Disk.means (disk_at c.args.disks.now Two)).content c.in_ok-found.found c.settle.result (c.in_ok-found.ensures.found told) c.settle.ensures.same c.settle.ensures.stored
+
+pub returns-clause-current : goal.returns-clause-current
+returns-clause-current g c told =
+    let means = g.D.Disk.means in
+    current_in means c.args.first.now c.args.disks.now c.find.new.disks c.settle.new.disks c.in_ok-found.found c.settle.result (c.in_ok-found.ensures.found told) (c.in_ok-found.ensures.one told) (c.in_ok-found.ensures.two told)
+    (c.in_ok-found.ensures.one_durable told) (c.in_ok-found.ensures.two_durable told) c.settle.ensures.found c.settle.ensures.same c.settle.ensures.two
+    (λ none. new_of means c.args.first.now c.settle.new.disks c.settle.result (c.settle.ensures.file none) (c.settle.ensures.generation none) (c.settle.ensures.end none) (c.settle.ensures.fits none) (c.settle.ensures.stored none) (c.settle.ensures.written told none) (c.settle.ensures.at_rest told none))
+
+pub returns-clause-images : goal.returns-clause-images
+returns-clause-images g c told =
+    let means = g.D.Disk.means in
+    images_in means c.args.first.now c.settle.new.disks c.settle.result
+    (current_in means c.args.first.now c.args.disks.now c.find.new.disks c.settle.new.disks c.in_ok-found.found c.settle.result (c.in_ok-found.ensures.found told) (c.in_ok-found.ensures.one told) (c.in_ok-found.ensures.two told)
+    (c.in_ok-found.ensures.one_durable told) (c.in_ok-found.ensures.two_durable told) c.settle.ensures.found c.settle.ensures.same c.settle.ensures.two
+    (λ none. new_of means c.args.first.now c.settle.new.disks c.settle.result (c.settle.ensures.file none) (c.settle.ensures.generation none) (c.settle.ensures.end none) (c.settle.ensures.fits none) (c.settle.ensures.stored none) (c.settle.ensures.written told none) (c.settle.ensures.at_rest told none)))
+
+pub returns-clause-any_moment : goal.returns-clause-any_moment
+returns-clause-any_moment g c told stored all =
+    let means = g.D.Disk.means in
+    moments_in means c.args.first.now c.args.disks.now c.find.new.disks c.settle.new.disks c.in_ok-found.found (c.in_ok-found.ensures.found told) (c.in_ok-found.ensures.one_moments told) (c.in_ok-found.ensures.two_moments told)
+    c.settle.ensures.found c.settle.ensures.two (c.settle.ensures.moments told) (g.met.D.Disk.reads_an_image told (disk_at c.args.disks.now One)) (g.met.D.Disk.reads_an_image told (disk_at c.args.disks.now Two)) stored all
 
 pub returns-clause-at_rest : goal.returns-clause-at_rest
-returns-clause-at_rest g c told =
-    let body = body_bytes 1 c.args.first.now in
-    let rest_is = c.deref.ensures.value ∙ c.in_ok-body.ensures in
-    ends_at_rest (g.D.Disk.means (disk_at c.finish_replace.new.disks One)) (1 ∷ body) _ (c.in_ok-finish_replace.ensures.open_now told ∙ ap (λ (l : List ℕ). 1 ∷ l) rest_is)
-    (c.in_ok-finish_replace.ensures.durable told) (omega (arith, ap length c.in_ok-body.ensures, length-append body (0 ∷ [])))
+returns-clause-at_rest g c =
+    let means = g.D.Disk.means in
+    rest_in means c.args.first.now g.D.Disk.told c.settle.new.disks c.settle.result
+    (λ told. current_in means c.args.first.now c.args.disks.now c.find.new.disks c.settle.new.disks c.in_ok-found.found c.settle.result (c.in_ok-found.ensures.found told) (c.in_ok-found.ensures.one told) (c.in_ok-found.ensures.two told)
+    (c.in_ok-found.ensures.one_durable told) (c.in_ok-found.ensures.two_durable told) c.settle.ensures.found c.settle.ensures.same c.settle.ensures.two
+    (λ none. new_of means c.args.first.now c.settle.new.disks c.settle.result (c.settle.ensures.file none) (c.settle.ensures.generation none) (c.settle.ensures.end none) (c.settle.ensures.fits none) (c.settle.ensures.stored none) (c.settle.ensures.written told none) (c.settle.ensures.at_rest told none)))
+
+pub returns-clause-unchanged : goal.returns-clause-unchanged
+returns-clause-unchanged g c told =
+    unchanged_in c.settle.result ((g.D.Disk.means (disk_at c.settle.new.disks One)).content ≡ (g.D.Disk.means (disk_at c.args.disks.now One)).content) c.settle.ensures.refusals (λ none. c.settle.ensures.no_memory told none ∙ c.in_ok-found.ensures.one told)
+
+pub returns-clause-refusals : goal.returns-clause-refusals
+returns-clause-refusals g c told = refused_so c.settle.result _ c.settle.ensures.refusals
+
+pub returns-clause-cause : goal.returns-clause-cause
+returns-clause-cause g c is = rose_later g.D.Disk.means c.args.disks.now c.find.new.disks c.settle.new.disks c.in_ok-found.ensures.later (c.settle.ensures.cause is)
+
+pub returns-clause-stored : goal.returns-clause-stored
+returns-clause-stored g c told shut shut' = c.settle.ensures.stored (none_found c.args.first.now _ _ c.in_ok-found.found (c.in_ok-found.ensures.found told) shut shut')
+
+pub returns-clause-file : goal.returns-clause-file
+returns-clause-file g c told shut shut' = c.settle.ensures.file (none_found c.args.first.now _ _ c.in_ok-found.found (c.in_ok-found.ensures.found told) shut shut')
+
+pub returns-clause-generation : goal.returns-clause-generation
+returns-clause-generation g c told shut shut' = c.settle.ensures.generation (none_found c.args.first.now _ _ c.in_ok-found.found (c.in_ok-found.ensures.found told) shut shut')
+
+pub returns-clause-end : goal.returns-clause-end
+returns-clause-end g c told shut shut' = c.settle.ensures.end (none_found c.args.first.now _ _ c.in_ok-found.found (c.in_ok-found.ensures.found told) shut shut')
+
+pub returns-clause-written : goal.returns-clause-written
+returns-clause-written g c told shut shut' = c.settle.ensures.written told (none_found c.args.first.now _ _ c.in_ok-found.found (c.in_ok-found.ensures.found told) shut shut')

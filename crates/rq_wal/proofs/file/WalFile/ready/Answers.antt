@@ -1,7 +1,8 @@
-use Rattle.std.proofs.Common.{All, List, ℕ, sym, subst}
+use Rattle.std.proofs.Common.{All, List, ℕ, sym, subst, refl}
 use Rattle.rq_wal.specs.Gate.{IsPiece}
 use Rattle.rq_outside.specs.Pair.{disk_at}
 use Rattle.rq_wal.proofs.AtRest.{stays_at_rest}
+use Rattle.rq_wal.proofs.LogMore.{current_kept}
 use Rattle.rq_wal.proofs.Framed.{all_pieces}
 use Rattle.rq_wal.proofs.file.WalFile.ready.Goals as goal
 
@@ -15,3 +16,11 @@ returns-in_err-ready-clause-at_rest g c told rest =
 pub returns-clause-at_rest : goal.returns-clause-at_rest
 returns-clause-at_rest g c told rest =
     stays_at_rest (g.D.Disk.means (disk_at c.args.disks.now c.args.self.now.file)) (g.D.Disk.means (disk_at c.ready.new.self c.args.self.now.file)) c.args.self.now.end (c.ready.ensures.same told) rest
+
+pub returns-in_err-ready-clause-current : goal.returns-in_err-ready-clause-current
+returns-in_err-ready-clause-current g c told first stored current =
+    current_kept g.D.Disk.means first c.args.disks.now c.ready.new.self c.args.self.now _ stored refl c.ready.ensures.other (c.ready.ensures.same told) current
+
+pub returns-clause-current : goal.returns-clause-current
+returns-clause-current g c told first stored current =
+    current_kept g.D.Disk.means first c.args.disks.now c.ready.new.self c.args.self.now _ stored refl c.ready.ensures.other (c.ready.ensures.same told) current

@@ -1,0 +1,18 @@
+use Rattle.std.proofs.Common.{◌∙◌}
+use Rattle.rq_outside.specs.declared.pair.FileNo.TheVariants.{One, Two}
+use Rattle.rq_outside.specs.Pair.{disk_at}
+use Rattle.rq_wal.proofs.Found.{found_in, refused_in, never_disk}
+use Rattle.rq_wal.proofs.opening.find.Goals as goal
+
+pub returns-clause-found : goal.returns-clause-found
+returns-clause-found g c told =
+    found_in c.args.first.now c.choose.result _ _ (g.D.Disk.means (disk_at c.args.disks.now One)).content (g.D.Disk.means (disk_at c.args.disks.now Two)).content
+    (c.deref.ensures.value ∙ c.in_ok-one.ensures.one_bytes told) (c.deref-2.ensures.value ∙ c.in_ok-one.ensures.two_bytes told) c.choose.ensures.found
+
+pub returns-clause-refused : goal.returns-clause-refused
+returns-clause-refused g c told =
+    refused_in c.args.first.now c.choose.result _ _ (g.D.Disk.means (disk_at c.args.disks.now One)).content (g.D.Disk.means (disk_at c.args.disks.now Two)).content
+    (c.deref.ensures.value ∙ c.in_ok-one.ensures.one_bytes told) (c.deref-2.ensures.value ∙ c.in_ok-one.ensures.two_bytes told) c.choose.ensures.refused
+
+pub returns-clause-cause : goal.returns-clause-cause
+returns-clause-cause g c is = absurd (never_disk c.choose.result c.choose.ensures.no_disk is)
