@@ -57,16 +57,17 @@ module _ {D F : Type 0} (told : Bool) (means : D → DiskMeaning) where
       })
 
   -- what a new file stands for
-  pub stored_first : (pair : DiskPair D F) (wal : WalFile) (first : Base) → wal_file wal ≡ One → wal_generation wal ≡ 1 → wal_end wal ≡ length (front_bytes 1 first [])
+  pub stored_first : (pair : DiskPair D F) (wal : WalFile) (first : Base) → (IsTrue told → wal_file wal ≡ One) → (IsTrue told → wal_generation wal ≡ 1)
+      → (IsTrue told → wal_end wal ≡ length (front_bytes 1 first []))
       → (IsTrue told → (means (disk_at pair One)).content ≡ file_bytes 1 first []) → HasStored told means pair wal (started first)
   stored_first pair wal first file generation end written = record {
     base = first;
     frames = [];
     content = λ tells.
-        ap (λ f. take (wal_end wal) (means (disk_at pair f)).content) file
+        ap (λ f. take (wal_end wal) (means (disk_at pair f)).content) (file tells)
         ∙ ap (λ (l : List ℕ). take (wal_end wal) l) (written tells)
-        ∙ ap (λ (n : ℕ). take n (file_bytes 1 first [])) end
+        ∙ ap (λ (n : ℕ). take n (file_bytes 1 first [])) (end tells)
         ∙ take-append_seam (front_bytes 1 first []) (0 ∷ [])
-        ∙ ap (λ (g : ℕ). front_bytes g first []) (sym generation);
+        ∙ ap (λ (g : ℕ). front_bytes g first []) (sym (generation tells));
     folds = refl;
   }
