@@ -3,10 +3,10 @@
 ghost use Rattle.std.specs.Prelude.{◌≡◌};
 ghost use Rattle.rq_grammar.specs.Stack.{order, closes};
 
-use crate::expr::{BinaryOp, Expr};
-use crate::place::{Place, Query, Target};
+use crate::expr::BinaryOp;
+use crate::measured::{Measured, MeasuredList, MeasuredRows, MeasuredSets};
+use crate::place::{MeasuredQuery, Place, Target};
 use rq_values::Text;
-use sqlite_items::Items;
 use std::marker::Model;
 
 /// The clause in which an expression stands.
@@ -15,29 +15,29 @@ pub enum Clause {
     /// `INSERT INTO target VALUES rows, ( row ,`
     Row {
         target: Target,
-        rows: Items<Items<Expr>>,
-        row: Items<Expr>,
+        rows: MeasuredRows,
+        row: MeasuredList,
     },
     /// `SELECT results ,`
-    Results(Query),
+    Results(MeasuredQuery),
     /// `.. WHERE`
-    Filter(Query),
+    Filter(MeasuredQuery),
     /// `.. ORDER BY terms ,`
-    Order(Query),
+    Order(MeasuredQuery),
     /// `.. LIMIT`
-    Limit(Query),
+    Limit(MeasuredQuery),
     /// `.. LIMIT expr OFFSET`
-    Offset(Query),
+    Offset(MeasuredQuery),
     /// `UPDATE table SET sets , name =`
     Set {
         table: Text,
-        sets: Items<(Text, Expr)>,
+        sets: MeasuredSets,
         name: Text,
     },
     /// `UPDATE table SET sets WHERE`
     UpdateFilter {
         table: Text,
-        sets: Items<(Text, Expr)>,
+        sets: MeasuredSets,
     },
     /// `DELETE FROM table WHERE`
     DeleteFilter(Text),
@@ -48,7 +48,7 @@ pub enum Clause {
 pub enum Frame {
     Binary {
         op: BinaryOp,
-        left: Expr,
+        left: Measured,
     },
     Not,
     /// One front `+` or more.
@@ -57,25 +57,25 @@ pub enum Frame {
     /// `left BETWEEN`
     Low {
         negated: bool,
-        left: Expr,
+        left: Measured,
     },
     /// `left BETWEEN low AND`
     High {
         negated: bool,
-        left: Expr,
-        low: Expr,
+        left: Measured,
+        low: Measured,
     },
     Paren,
     /// `name ( args ,`
     Args {
         name: Text,
-        args: Items<Expr>,
+        args: MeasuredList,
     },
     /// `left IN ( list ,`
     Among {
         negated: bool,
-        left: Expr,
-        list: Items<Expr>,
+        left: Measured,
+        list: MeasuredList,
     },
     /// The clause, always outermost.
     Clause(Clause),
@@ -148,13 +148,13 @@ pub enum State {
     /// `COUNT ( *`
     Counted(Stack),
     /// An operand of this level is read.
-    Done(Stack, u8, Expr),
+    Done(Stack, u8, Measured),
     /// `operand NOT`
-    Denied(Stack, Expr),
+    Denied(Stack, Measured),
     /// `operand IS`
-    Is(Stack, Expr),
+    Is(Stack, Measured),
     /// `operand IN`, `operand NOT IN`
-    In(Stack, bool, Expr),
+    In(Stack, bool, Measured),
     /// `operand IN (`
-    Listed(Stack, bool, Expr),
+    Listed(Stack, bool, Measured),
 }
