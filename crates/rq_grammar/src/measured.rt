@@ -1,6 +1,6 @@
 //! Expressions beside their depth, which contracts see as the expressions alone. A depth counts up to 101.
 
-ghost use Rattle.std.specs.Prelude.{◌≡◌, [], ◌∷◌, ◌++◌, None, Some, min, IfOk, OnOk};
+ghost use Rattle.std.specs.Prelude.{◌≡◌, [], ◌∷◌, ◌++◌, None, Some, suc, min, IfOk, OnOk};
 ghost use Rattle.rq_grammar.specs.declared.expr.Expr.TheVariants as e;
 ghost use Rattle.rq_grammar.specs.Depth as d;
 
@@ -100,4 +100,285 @@ impl Model for MeasuredSets {
     ghost view = { λ is. is.sets };
 
     ghost invariant = { λ is. is.levels ≡ min 101 (sets_depth is.sets) };
+}
+
+/// One level above so many, counted up to 101.
+pub(crate) fn above(levels: u8) -> u8
+    ensures { result ≡ min 101 (suc levels) }
+{
+    levels.saturating_add(1).min(101)
+}
+
+impl Measured {
+    pub fn literal(value: Value) -> Measured
+        ensures { result ≡ e.Literal value }
+    {
+        Measured {
+            expr: Expr::Literal(value),
+            levels: 1,
+        }
+    }
+
+    pub fn param(name: Option<Text>) -> Measured
+        ensures { result ≡ e.Param name }
+    {
+        Measured {
+            expr: Expr::Param(name),
+            levels: 1,
+        }
+    }
+
+    pub fn name(name: Text) -> Measured
+        ensures { result ≡ e.Name name }
+    {
+        Measured {
+            expr: Expr::Name(name),
+            levels: 1,
+        }
+    }
+
+    pub fn qualified(table: Text, column: Text) -> Measured
+        ensures { result ≡ e.Qualified table column }
+    {
+        Measured {
+            expr: Expr::Qualified { table, column },
+            levels: 1,
+        }
+    }
+
+    pub fn current_timestamp() -> Measured
+        ensures { result ≡ e.CurrentTimestamp }
+    {
+        Measured {
+            expr: Expr::CurrentTimestamp,
+            levels: 1,
+        }
+    }
+
+    pub fn current_date() -> Measured
+        ensures { result ≡ e.CurrentDate }
+    {
+        Measured {
+            expr: Expr::CurrentDate,
+            levels: 1,
+        }
+    }
+
+    pub fn current_time() -> Measured
+        ensures { result ≡ e.CurrentTime }
+    {
+        Measured {
+            expr: Expr::CurrentTime,
+            levels: 1,
+        }
+    }
+
+    pub fn count_all() -> Measured
+        ensures { result ≡ e.CountAll }
+    {
+        Measured {
+            expr: Expr::CountAll,
+            levels: 1,
+        }
+    }
+
+    pub fn call(name: Text, args: MeasuredList) -> Measured
+        ensures { result ≡ e.Call name args }
+    {
+        let levels = above(args.levels.max(1));
+        Measured {
+            expr: Expr::Call {
+                name,
+                args: args.items,
+            },
+            levels,
+        }
+    }
+
+    pub fn minus(alloc: Global, operand: Measured) -> Result<Measured, NoMemory>
+        ensures { IfOk result (λ x. x ≡ e.Minus operand) }
+    {
+        let levels = above(operand.levels);
+        Ok(Measured {
+            expr: Expr::Minus(Boxed::new(alloc, operand.expr)?),
+            levels,
+        })
+    }
+
+    pub fn not(alloc: Global, operand: Measured) -> Result<Measured, NoMemory>
+        ensures { IfOk result (λ x. x ≡ e.Not operand) }
+    {
+        let levels = above(operand.levels);
+        Ok(Measured {
+            expr: Expr::Not(Boxed::new(alloc, operand.expr)?),
+            levels,
+        })
+    }
+
+    pub fn binary(
+        alloc: Global,
+        op: BinaryOp,
+        left: Measured,
+        right: Measured,
+    ) -> Result<Measured, NoMemory>
+        ensures { IfOk result (λ x. x ≡ e.Binary op left right) }
+    {
+        let levels = above(left.levels.max(right.levels));
+        Ok(Measured {
+            expr: Expr::Binary {
+                op,
+                left: Boxed::new(alloc, left.expr)?,
+                right: Boxed::new(alloc, right.expr)?,
+            },
+            levels,
+        })
+    }
+
+    pub fn in_list(
+        alloc: Global,
+        negated: bool,
+        left: Measured,
+        list: MeasuredList,
+    ) -> Result<Measured, NoMemory>
+        ensures { IfOk result (λ x. x ≡ e.InList negated left list) }
+    {
+        let levels = above(left.levels.max(list.levels));
+        Ok(Measured {
+            expr: Expr::InList {
+                negated,
+                left: Boxed::new(alloc, left.expr)?,
+                list: list.items,
+            },
+            levels,
+        })
+    }
+
+    pub fn between(
+        alloc: Global,
+        negated: bool,
+        left: Measured,
+        low: Measured,
+        high: Measured,
+    ) -> Result<Measured, NoMemory>
+        ensures { IfOk result (λ x. x ≡ e.Between negated left low high) }
+    {
+        let levels = above(left.levels.max(low.levels.max(high.levels)));
+        Ok(Measured {
+            expr: Expr::Between {
+                negated,
+                left: Boxed::new(alloc, left.expr)?,
+                low: Boxed::new(alloc, low.expr)?,
+                high: Boxed::new(alloc, high.expr)?,
+            },
+            levels,
+        })
+    }
+
+    pub fn levels(&self) -> u8
+        ensures { result ≡ min 101 (d.depth self.now) }
+    {
+        self.levels
+    }
+
+    pub fn into_inner(self) -> Expr
+        ensures { result ≡ self }
+    {
+        self.expr
+    }
+}
+
+impl MeasuredList {
+    pub fn new(alloc: Global) -> MeasuredList
+        ensures { result ≡ [] }
+    {
+        MeasuredList {
+            items: Items::new(alloc),
+            levels: 0,
+        }
+    }
+
+    #[tactic(auto, using(crate::proofs::Depths::depths_more))]
+    pub fn push(&mut self, expr: Measured) -> Result<(), NoMemory>
+        ensures { OnOk result (self.new ≡ self.old ++ expr ∷ []) }
+    {
+        self.items.push(expr.expr)?;
+        self.levels = self.levels.max(expr.levels);
+        Ok(())
+    }
+
+    pub fn levels(&self) -> u8
+        ensures { result ≡ min 101 (d.depths self.now) }
+    {
+        self.levels
+    }
+
+    pub fn into_inner(self) -> Items<Expr>
+        ensures { result ≡ self }
+    {
+        self.items
+    }
+}
+
+impl MeasuredRows {
+    pub fn new(alloc: Global) -> MeasuredRows
+        ensures { result ≡ [] }
+    {
+        MeasuredRows {
+            rows: Items::new(alloc),
+            levels: 0,
+        }
+    }
+
+    #[tactic(auto, using(crate::proofs::Depths::rows_more))]
+    pub fn push(&mut self, row: MeasuredList) -> Result<(), NoMemory>
+        ensures { OnOk result (self.new ≡ self.old ++ row ∷ []) }
+    {
+        self.rows.push(row.items)?;
+        self.levels = self.levels.max(row.levels);
+        Ok(())
+    }
+
+    pub fn levels(&self) -> u8
+        ensures { result ≡ min 101 (d.rows_depth self.now) }
+    {
+        self.levels
+    }
+
+    pub fn into_inner(self) -> Items<Items<Expr>>
+        ensures { result ≡ self }
+    {
+        self.rows
+    }
+}
+
+impl MeasuredSets {
+    pub fn new(alloc: Global) -> MeasuredSets
+        ensures { result ≡ [] }
+    {
+        MeasuredSets {
+            sets: Items::new(alloc),
+            levels: 0,
+        }
+    }
+
+    #[tactic(auto, using(crate::proofs::Depths::sets_more))]
+    pub fn push(&mut self, name: Text, expr: Measured) -> Result<(), NoMemory>
+        ensures { OnOk result (self.new ≡ self.old ++ (name, expr) ∷ []) }
+    {
+        self.sets.push((name, expr.expr))?;
+        self.levels = self.levels.max(expr.levels);
+        Ok(())
+    }
+
+    pub fn levels(&self) -> u8
+        ensures { result ≡ min 101 (d.sets_depth self.now) }
+    {
+        self.levels
+    }
+
+    pub fn into_inner(self) -> Items<(Text, Expr)>
+        ensures { result ≡ self }
+    {
+        self.sets
+    }
 }
