@@ -10,6 +10,7 @@ pub mod Depths
 pub mod Deeper
 pub mod Due
 pub mod Room
+pub mod Popped
 pub mod Shallow
 pub mod Limited
 pub mod Stops

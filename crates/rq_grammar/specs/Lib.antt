@@ -6,6 +6,7 @@ pub mod Places
 pub mod Machine
 pub mod Depth
 pub mod Load
+pub mod Popping
 pub mod Weight
 pub mod Spelling
 pub mod Print

@@ -1,8 +1,10 @@
 //! What is still open.
 
-ghost use Rattle.std.specs.Prelude.{◌≡◌, [], ◌∷◌, false, min, IfOk, OnOk};
+ghost use Rattle.std.specs.Prelude.{ℕ, ◌≡◌, [], ◌∷◌, false, min, IfOk, OnOk};
 ghost use Rattle.rq_grammar.specs.declared.frame.Frame.TheVariants as f;
 ghost use Rattle.rq_grammar.specs.Stack.{order, room, closes, pop_of};
+ghost use Rattle.rq_grammar.specs.Popping.{PopsClosing, IsBehindPlus, is_low, PopsLow};
+ghost use Rattle.rq_grammar.specs.Weight.{least};
 ghost use Rattle.rq_grammar.specs.Load.{clause_least, is_clause, needs, adds, height, floor};
 
 use crate::expr::BinaryOp;
@@ -95,6 +97,16 @@ impl Frame {
             Frame::Plus | Frame::Minus => 9,
             Frame::Low { .. } | Frame::High { .. } => 5,
             _ => 0,
+        }
+    }
+
+    /// Whether the frame waits for the low end of a BETWEEN.
+    fn is_low(&self) -> bool
+        ensures { result ≡ is_low self.now }
+    {
+        match self {
+            Frame::Low { .. } => true,
+            _ => false,
         }
     }
 
@@ -222,6 +234,54 @@ impl Stack {
             None => 0,
             Some(held) => held.frame.order(),
         }
+    }
+
+    /// Takes the innermost frame off, if its expression ends before an operator of level `k`.
+    pub fn pop_closing(&mut self, k: u8) -> Option<Frame>
+        ensures { PopsClosing k self.old result self.new }
+    {
+        let closes = match self.held.last() {
+            None => false,
+            Some(held) => held.frame.closes(k),
+        };
+        if closes { self.pop() } else { None }
+    }
+
+    /// Whether the innermost frame is a front `+`.
+    pub fn is_behind_plus(&self) -> bool
+        ensures { IsBehindPlus self.now result }
+    {
+        match self.held.last() {
+            None => false,
+            Some(held) => matches!(held.frame, Frame::Plus),
+        }
+    }
+
+    /// Takes the innermost frame off, if it waits for the low end of a BETWEEN: whether NOT stood before it, and what is between.
+    #[tactic(auto, using(crate::proofs::Popped::no_low, crate::proofs::Popped::no_frame))]
+    pub fn pop_low(&mut self) -> Option<(bool, Measured)>
+        ensures { PopsLow self.old result self.new }
+    {
+        let is_low = match self.held.last() {
+            None => false,
+            Some(held) => held.frame.is_low(),
+        };
+        if !is_low {
+            return None;
+        }
+        match self.pop() {
+            Some(Frame::Low { negated, left }) => Some((negated, left)),
+            _ => None,
+        }
+    }
+
+    /// The least depth of a statement in which an operand of this depth stands on the stack. Depths count up to 101.
+    #[tactic(auto, using(crate::proofs::Room::least_is))]
+    pub fn least(&self, depth: u8) -> u8
+        ensures { (d : ℕ) → depth ≡ min 101 d → result ≡ min 101 (least self.now d) }
+    {
+        let (floor, height) = self.load();
+        depth.saturating_add(height).min(101).max(floor)
     }
 
     /// What the stack needs of a statement's depth, and the levels above its operand.
