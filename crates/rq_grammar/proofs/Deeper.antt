@@ -37,7 +37,8 @@ use Rattle.rq_grammar.specs.Places.{flat, name_of, on_name, selected, place_step
 use Rattle.rq_grammar.specs.Machine as M
 use Rattle.rq_grammar.specs.Machine.{step, finish, done, ended_at, ended_on, end_at, end_on, clause_on, land, landed, landed_end}
 use Rattle.rq_grammar.specs.Depth.{depth, rows_depth, sets_depth, select_depth, deepest}
-use Rattle.rq_grammar.specs.Weight.{stage_depth, clause_least, least, place_weight, weight}
+use Rattle.rq_grammar.specs.Load.{stage_depth, clause_least}
+use Rattle.rq_grammar.specs.Weight.{least, place_weight, weight}
 use Rattle.rq_grammar.proofs.Depths.{depth_literal, depth_param, depth_name, depth_qualified, depth_timestamp, depth_date, depth_time, depth_count_all, depth_call, depth_minus, depth_not, depth_binary, depth_in, depth_between, depths_more, rows_more, results_more, order_more, sets_more}
 use Rattle.rq_grammar.proofs.Sound.{guard, unless, on_some}
 

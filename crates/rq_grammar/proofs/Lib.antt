@@ -9,6 +9,7 @@ pub mod SoundSteps
 pub mod Depths
 pub mod Deeper
 pub mod Due
+pub mod Room
 pub mod Shallow
 pub mod Limited
 pub mod Stops

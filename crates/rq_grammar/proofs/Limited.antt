@@ -17,7 +17,8 @@ use Rattle.rq_grammar.specs.Stack.{Stack, room, reduce, split}
 use Rattle.rq_grammar.specs.Places.{place_finish}
 use Rattle.rq_grammar.specs.Machine.{step, finish, parse, end_at, end_on, land, landed_end}
 use Rattle.rq_grammar.specs.Depth.{depth, deepest, open_behind, most_open, Limits, Stop, TooDeep}
-use Rattle.rq_grammar.specs.Weight.{clause_least, least, place_weight, weight, due, limited, one_later, going, or_nothing, parse_within}
+use Rattle.rq_grammar.specs.Load.{clause_least}
+use Rattle.rq_grammar.specs.Weight.{least, place_weight, weight, due, limited, one_later, going, or_nothing, parse_within}
 use Rattle.rq_grammar.proofs.Reduce.{go, stop, went, ends_here}
 use Rattle.rq_grammar.proofs.Reached as R
 use Rattle.rq_grammar.proofs.Reached.{Reached, Stacked, Within, Came}

@@ -37,7 +37,8 @@ use Rattle.rq_grammar.specs.Places as L
 use Rattle.rq_grammar.specs.Places.{place_step, place_finish, selected, add_result, target, new_table}
 use Rattle.rq_grammar.specs.Machine.{step, finish, parse, done, ended_at, ended_on, end_at, end_on, clause_on, land, landed_end}
 use Rattle.rq_grammar.specs.Depth.{depth, rows_depth, results_depth, sets_depth, deepest, open_behind, most_open}
-use Rattle.rq_grammar.specs.Weight.{stage_depth, clause_least, least, place_weight, weight, place_due, due}
+use Rattle.rq_grammar.specs.Load.{stage_depth, clause_least}
+use Rattle.rq_grammar.specs.Weight.{least, place_weight, weight, place_due, due}
 use Rattle.rq_grammar.proofs.Reduce.{reduce_closed, Same, go, stop}
 use Rattle.rq_grammar.proofs.Complete.{quoted_as_done, named_as_done}
 use Rattle.rq_grammar.proofs.Reached as R

@@ -5,6 +5,7 @@ pub mod Stack
 pub mod Places
 pub mod Machine
 pub mod Depth
+pub mod Load
 pub mod Weight
 pub mod Spelling
 pub mod Print

@@ -1,40 +1,17 @@
 -- The machine within limits: each state has a weight, the least depth of a statement that goes on from it, and a due, the `(` that must still come.
 use Rattle.std.specs.Prelude.{ℕ, suc, ◌+◌, max, nat_le, ◌&&◌, if◌then◌else◌, [], ◌∷◌, Option, Some, None, Result, Ok, Err}
 use Rattle.rq_grammar.specs.declared.stmt.Stmt.{Stmt}
-use Rattle.rq_grammar.specs.declared.place.Query.{Query}
-use Rattle.rq_grammar.specs.declared.place.Stage.{Stage}
 use Rattle.rq_grammar.specs.declared.place.Stage.TheVariants as stage
 use Rattle.rq_grammar.specs.declared.place.Place.{Place}
 use Rattle.rq_grammar.specs.declared.place.Place.TheVariants as p
-use Rattle.rq_grammar.specs.declared.frame.Clause.{Clause}
-use Rattle.rq_grammar.specs.declared.frame.Clause.TheVariants as c
 use Rattle.rq_grammar.specs.declared.frame.Frame.TheVariants as f
 use Rattle.rq_grammar.specs.declared.frame.State.{State}
 use Rattle.rq_grammar.specs.declared.frame.State.TheVariants as s
 use Rattle.rq_grammar.specs.Words.{Tokens}
 use Rattle.rq_grammar.specs.Stack.{Stack}
 use Rattle.rq_grammar.specs.Machine.{step, finish}
-use Rattle.rq_grammar.specs.Depth.{depth, depths, rows_depth, maybe_depth, results_depth, order_depth, sets_depth, select_depth, deepest, open_behind, Limits, Stop, NoStatement, TooDeep}
-
--- the depth of the parts of a select that are read
-abbrev pub stage_depth : Stage → Query → ℕ
-stage_depth stage.Results q = results_depth q.select.results
-stage_depth stage.Source q = results_depth q.select.results
-stage_depth stage.Filtered q = max (results_depth q.select.results) (maybe_depth q.select.filter)
-stage_depth stage.Ordered q = max (results_depth q.select.results) (max (maybe_depth q.select.filter) (order_depth q.select.order))
-stage_depth stage.Limited q = select_depth q.select
-
--- the least depth of a statement in whose clause an operand of depth d stands
-abbrev pub clause_least : Clause → ℕ → ℕ
-clause_least (c.Row i rs xs) d = max (rows_depth rs) (max (depths xs) d)
-clause_least (c.Results q) d = max (stage_depth stage.Results q) d
-clause_least (c.Filter q) d = max (stage_depth stage.Results q) d
-clause_least (c.Order q) d = max (stage_depth stage.Ordered q) d
-clause_least (c.Limit q) d = max (stage_depth stage.Ordered q) d
-clause_least (c.Offset q) d = max (stage_depth stage.Ordered q) (max (maybe_depth q.select.limit) d)
-clause_least (c.Set n is m) d = max (sets_depth is) d
-clause_least (c.UpdateFilter n is) d = max (sets_depth is) d
-clause_least (c.DeleteFilter n) d = d
+use Rattle.rq_grammar.specs.Load.{stage_depth, clause_least}
+use Rattle.rq_grammar.specs.Depth.{depth, depths, rows_depth, sets_depth, deepest, open_behind, Limits, Stop, NoStatement, TooDeep}
 
 -- the least depth of a statement in which an operand of depth d stands on the stack
 abbrev pub least : Stack → ℕ → ℕ

@@ -1,12 +1,15 @@
 //! What is still open.
 
-ghost use Rattle.std.specs.Prelude.{◌≡◌};
-ghost use Rattle.rq_grammar.specs.Stack.{order, closes};
+ghost use Rattle.std.specs.Prelude.{◌≡◌, [], ◌∷◌, false, min, IfOk, OnOk};
+ghost use Rattle.rq_grammar.specs.declared.frame.Frame.TheVariants as f;
+ghost use Rattle.rq_grammar.specs.Stack.{order, room, closes, pop_of};
+ghost use Rattle.rq_grammar.specs.Load.{clause_least, is_clause, needs, adds, height, floor};
 
-use crate::expr::{BinaryOp, Expr};
-use crate::place::{Place, Query, Target};
-use rq_values::Text;
-use sqlite_items::Items;
+use crate::expr::BinaryOp;
+use crate::measured::{Measured, MeasuredList, MeasuredRows, MeasuredSets, above};
+use crate::place::{MeasuredQuery, Place, Target};
+use rq_values::{NoMemory, Text};
+use std::alloc::Global;
 use std::marker::Model;
 
 /// The clause in which an expression stands.
@@ -15,29 +18,29 @@ pub enum Clause {
     /// `INSERT INTO target VALUES rows, ( row ,`
     Row {
         target: Target,
-        rows: Items<Items<Expr>>,
-        row: Items<Expr>,
+        rows: MeasuredRows,
+        row: MeasuredList,
     },
     /// `SELECT results ,`
-    Results(Query),
+    Results(MeasuredQuery),
     /// `.. WHERE`
-    Filter(Query),
+    Filter(MeasuredQuery),
     /// `.. ORDER BY terms ,`
-    Order(Query),
+    Order(MeasuredQuery),
     /// `.. LIMIT`
-    Limit(Query),
+    Limit(MeasuredQuery),
     /// `.. LIMIT expr OFFSET`
-    Offset(Query),
+    Offset(MeasuredQuery),
     /// `UPDATE table SET sets , name =`
     Set {
         table: Text,
-        sets: Items<(Text, Expr)>,
+        sets: MeasuredSets,
         name: Text,
     },
     /// `UPDATE table SET sets WHERE`
     UpdateFilter {
         table: Text,
-        sets: Items<(Text, Expr)>,
+        sets: MeasuredSets,
     },
     /// `DELETE FROM table WHERE`
     DeleteFilter(Text),
@@ -48,7 +51,7 @@ pub enum Clause {
 pub enum Frame {
     Binary {
         op: BinaryOp,
-        left: Expr,
+        left: Measured,
     },
     Not,
     /// One front `+` or more.
@@ -57,25 +60,25 @@ pub enum Frame {
     /// `left BETWEEN`
     Low {
         negated: bool,
-        left: Expr,
+        left: Measured,
     },
     /// `left BETWEEN low AND`
     High {
         negated: bool,
-        left: Expr,
-        low: Expr,
+        left: Measured,
+        low: Measured,
     },
     Paren,
     /// `name ( args ,`
     Args {
         name: Text,
-        args: Items<Expr>,
+        args: MeasuredList,
     },
     /// `left IN ( list ,`
     Among {
         negated: bool,
-        left: Expr,
-        list: Items<Expr>,
+        left: Measured,
+        list: MeasuredList,
     },
     /// The clause, always outermost.
     Clause(Clause),
@@ -95,6 +98,30 @@ impl Frame {
         }
     }
 
+    /// The depth that the frame needs, whatever its operand is.
+    fn needs(&self) -> u8
+        ensures { result ≡ min 101 (needs self.now) }
+    {
+        match self {
+            Frame::Binary { left, .. } => above(left.levels()),
+            Frame::Low { left, .. } => above(left.levels().max(1)),
+            Frame::High { left, low, .. } => above(left.levels().max(low.levels())),
+            Frame::Args { args, .. } => above(args.levels().max(1)),
+            Frame::Among { left, list, .. } => above(left.levels().max(list.levels())),
+            _ => 0,
+        }
+    }
+
+    /// The levels that the frame adds to its operand.
+    fn adds(&self) -> u8
+        ensures { result ≡ adds self.now }
+    {
+        match self {
+            Frame::Plus | Frame::Paren | Frame::Clause(_) => 0,
+            _ => 1,
+        }
+    }
+
     /// Whether the frame's expression ends before an operator of level `k`.
     pub fn closes(&self, k: u8) -> bool
         ensures { result ≡ closes k self.now }
@@ -109,15 +136,24 @@ impl Frame {
     }
 }
 
+/// A frame, what the stack up to it needs of a statement's depth, and the levels above its operand.
+#[derive(Drop)]
+struct Held {
+    frame: Frame,
+    floor: u8,
+    height: u8,
+}
+
 /// What is open, the innermost first.
 #[derive(Drop)]
 pub struct Stack {
-    frames: Vec<Frame>,
+    held: Vec<Held>,
 }
 
 impl Model for Stack {
     ghost use Rattle.std.specs.Prelude.{List, reverse};
     ghost use Rattle.rq_grammar.specs.declared.frame.Frame.{Frame};
+    ghost use Rattle.rq_grammar.specs.Load.{frames, Loaded};
     ghost use Rattle.rq_grammar.specs.contracts.expr.Expr as e;
     ghost use Rattle.std.specs.Coded.{codes};
 
@@ -125,7 +161,79 @@ impl Model for Stack {
 
     ghost coded = { Prim.hlevel (codes, e.the_row.coded) };
 
-    ghost view = { λ s. reverse s.frames.items };
+    ghost view = { λ s. frames (reverse s.held.items) };
+
+    ghost invariant = { λ s. Loaded (reverse s.held.items) };
+}
+
+impl Stack {
+    pub fn new(alloc: Global) -> Stack
+        ensures { result ≡ [] }
+    {
+        Stack {
+            held: Vec::new(alloc),
+        }
+    }
+
+    /// The stack that has the clause alone, whose parts are as deep as `floor` says.
+    pub fn of_clause(alloc: Global, clause: Clause, floor: u8) -> Result<Stack, NoMemory>
+        requires { floor ≡ min 101 (clause_least clause 0) }
+        ensures { IfOk result (λ st. st ≡ f.Clause clause ∷ []) }
+    {
+        let mut held = Vec::new(alloc);
+        held.push(Held {
+            frame: Frame::Clause(clause),
+            floor,
+            height: 0,
+        })?;
+        Ok(Stack { held })
+    }
+
+    /// Puts a frame on that is no clause.
+    pub fn push(&mut self, frame: Frame) -> Result<(), NoMemory>
+        requires { is_clause frame ≡ false }
+        ensures { OnOk result (self.new ≡ frame ∷ self.old) }
+    {
+        let (floor, height) = self.load();
+        let floor = frame.needs().saturating_add(height).min(101).max(floor);
+        let height = frame.adds().saturating_add(height).min(101);
+        self.held.push(Held {
+            frame,
+            floor,
+            height,
+        })?;
+        Ok(())
+    }
+
+    pub fn pop(&mut self) -> Option<Frame>
+        ensures { pop_of self.old ≡ (result, self.new) }
+    {
+        match self.held.pop() {
+            None => None,
+            Some(held) => Some(held.frame),
+        }
+    }
+
+    /// The least level of an operand that the innermost frame takes.
+    pub fn room(&self) -> u8
+        ensures { result ≡ room self.now }
+    {
+        match self.held.last() {
+            None => 0,
+            Some(held) => held.frame.order(),
+        }
+    }
+
+    /// What the stack needs of a statement's depth, and the levels above its operand.
+    fn load(&self) -> (u8, u8)
+        ensures floor { result.0 ≡ min 101 (floor self.now) }
+        ensures height { result.1 ≡ min 101 (height self.now) }
+    {
+        match self.held.last() {
+            None => (0, 0),
+            Some(held) => (held.floor, held.height),
+        }
+    }
 }
 
 /// Where the machine stands.
@@ -148,13 +256,13 @@ pub enum State {
     /// `COUNT ( *`
     Counted(Stack),
     /// An operand of this level is read.
-    Done(Stack, u8, Expr),
+    Done(Stack, u8, Measured),
     /// `operand NOT`
-    Denied(Stack, Expr),
+    Denied(Stack, Measured),
     /// `operand IS`
-    Is(Stack, Expr),
+    Is(Stack, Measured),
     /// `operand IN`, `operand NOT IN`
-    In(Stack, bool, Expr),
+    In(Stack, bool, Measured),
     /// `operand IN (`
-    Listed(Stack, bool, Expr),
+    Listed(Stack, bool, Measured),
 }

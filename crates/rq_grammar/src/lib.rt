@@ -6,6 +6,7 @@ mod examples;
 mod expr;
 mod frame;
 mod laws;
+mod measured;
 mod place;
 mod stmt;
 mod token;
@@ -17,7 +18,8 @@ pub use frame::{Clause, Frame, Stack, State};
 pub use laws::{
     canonical_tokens, one_place, one_statement, reads_what_is_spelled, reads_within_limits,
 };
-pub use place::{NewTable, Place, Query, Stage, Target};
+pub use measured::{Measured, MeasuredList, MeasuredRows, MeasuredSets};
+pub use place::{MeasuredQuery, MeasuredStmt, NewTable, Place, Query, Stage, Target};
 pub use stmt::{ColumnDef, ColumnKind, InsertRows, OrderTerm, ResultItem, SelectStmt, Stmt};
 pub use token::Token;
 pub use word::Word;

@@ -1,9 +1,10 @@
 //! Where in a statement the machine stands between expressions.
 
-use crate::expr::Expr;
+use crate::measured::{Measured, MeasuredRows, MeasuredSets};
 use crate::stmt::{ColumnDef, SelectStmt, Stmt};
 use rq_values::Text;
 use sqlite_items::Items;
+use std::marker::Model;
 
 /// `CREATE TABLE [IF NOT EXISTS] table ( column, ..`
 #[derive(Drop)]
@@ -40,6 +41,56 @@ pub enum Stage {
     Ordered,
     /// All.
     Limited,
+}
+
+/// A select as far as it is read, and the depth of each of its parts.
+#[derive(Drop)]
+pub struct MeasuredQuery {
+    query: Query,
+    results: u8,
+    filter: u8,
+    order: u8,
+    limit: u8,
+    offset: u8,
+}
+
+impl Model for MeasuredQuery {
+    ghost use Rattle.std.specs.Prelude.{◌≡◌, min};
+    ghost use Rattle.std.specs.Coded.{codes};
+    ghost use Rattle.rq_grammar.specs.declared.place.Query.{Query};
+    ghost use Rattle.rq_grammar.specs.Depth.{results_depth, maybe_depth, order_depth};
+    ghost use Rattle.rq_grammar.specs.contracts.expr.Expr as c;
+
+    ghost Value = { Query };
+
+    ghost coded = { Prim.hlevel (codes, c.the_row.coded) };
+
+    ghost view = { λ q. q.query };
+
+    ghost invariant = { λ q. (q.results ≡ min 101 (results_depth q.query.select.results)) × (q.filter ≡ min 101 (maybe_depth q.query.select.filter)) × (q.order ≡ min 101 (order_depth q.query.select.order)) × (q.limit ≡ min 101 (maybe_depth q.query.select.limit)) × (q.offset ≡ min 101 (maybe_depth q.query.select.offset)) };
+}
+
+/// A statement and its depth.
+#[derive(Drop)]
+pub struct MeasuredStmt {
+    stmt: Stmt,
+    levels: u8,
+}
+
+impl Model for MeasuredStmt {
+    ghost use Rattle.std.specs.Prelude.{◌≡◌, min};
+    ghost use Rattle.std.specs.Coded.{codes};
+    ghost use Rattle.rq_grammar.specs.declared.stmt.Stmt.{Stmt};
+    ghost use Rattle.rq_grammar.specs.Depth.{deepest};
+    ghost use Rattle.rq_grammar.specs.contracts.expr.Expr as c;
+
+    ghost Value = { Stmt };
+
+    ghost coded = { Prim.hlevel (codes, c.the_row.coded) };
+
+    ghost view = { λ s. s.stmt };
+
+    ghost invariant = { λ s. s.levels ≡ min 101 (deepest s.stmt) };
 }
 
 #[derive(Drop)]
@@ -88,19 +139,19 @@ pub enum Place {
     /// `INSERT INTO table ( name, .. )`
     Columns(Target),
     /// A row is to come.
-    Values(Target, Items<Items<Expr>>),
+    Values(Target, MeasuredRows),
     /// Behind a row.
-    Rows(Target, Items<Items<Expr>>),
+    Rows(Target, MeasuredRows),
     /// `UPDATE`
     Update,
     /// `UPDATE table`
     UpdateTable(Text),
     /// `UPDATE table SET name = expr, .. ,`
-    SetStart(Text, Items<(Text, Expr)>),
+    SetStart(Text, MeasuredSets),
     /// `UPDATE table SET name = expr, .. , name`
-    SetName(Text, Items<(Text, Expr)>, Text),
+    SetName(Text, MeasuredSets, Text),
     /// `UPDATE table SET name = expr, ..`
-    Sets(Text, Items<(Text, Expr)>),
+    Sets(Text, MeasuredSets),
     /// `DELETE`
     Delete,
     /// `DELETE FROM`
@@ -108,15 +159,15 @@ pub enum Place {
     /// `DELETE FROM table`
     DeleteTable(Text),
     /// A result is to come.
-    Result(Query),
+    Result(MeasuredQuery),
     /// `expr AS`
-    Alias(Query, Expr),
+    Alias(MeasuredQuery, Measured),
     /// Behind a part of a select.
-    Tail(Stage, Query),
+    Tail(Stage, MeasuredQuery),
     /// `SELECT results FROM`
-    From(Query),
+    From(MeasuredQuery),
     /// `.. ORDER`
-    Order(Query),
+    Order(MeasuredQuery),
     /// A whole statement.
-    Ended(Stmt),
+    Ended(MeasuredStmt),
 }
