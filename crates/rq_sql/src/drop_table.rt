@@ -1,0 +1,82 @@
+//! `DROP TABLE`, up to its end.
+
+ghost use Rattle.std.specs.Prelude.{◌≡◌, true};
+ghost use Rattle.rq_grammar.specs.Places as spec;
+ghost use Rattle.rq_grammar.specs.declared.place.Place.TheVariants as p;
+ghost use Rattle.rq_grammar.specs.declared.stmt.Stmt.TheVariants as s;
+
+use crate::names::name_of;
+use rq_grammar::{Place, State, Stmt, Token, Word};
+use rq_values::Text;
+
+/// Behind `DROP`.
+pub(crate) fn behind_drop(token: &Token) -> Option<State>
+    ensures { result ≡ spec.behind_drop token.now }
+{
+    match token {
+        Token::Word(_, Word::Table) => Some(State::Flat(Place::DropTable)),
+        _ => None,
+    }
+}
+
+/// Behind `DROP TABLE`.
+pub(crate) fn behind_drop_table(token: Token) -> Option<State>
+    ensures { result ≡ spec.behind_drop_table token }
+{
+    match &token {
+        Token::Word(_, Word::If) => drop_if(token),
+        _ => drop_named(false, token),
+    }
+}
+
+/// The name, or the word IF, is to come.
+fn drop_if(token: Token) -> Option<State>
+    ensures { result ≡ spec.on_name (spec.name_of token) p.DropIf }
+{
+    match name_of(token) {
+        Some(name) => Some(State::Flat(Place::DropIf(name))),
+        None => None,
+    }
+}
+
+/// The table's name is to come.
+pub(crate) fn drop_named(if_exists: bool, token: Token) -> Option<State>
+    ensures { result ≡ spec.on_name (spec.name_of token) (λ n. p.Ended (s.Drop if_exists n)) }
+{
+    match name_of(token) {
+        Some(table) => Some(State::Flat(Place::Ended(Stmt::Drop { if_exists, table }))),
+        None => None,
+    }
+}
+
+/// Behind a whole statement.
+pub(crate) fn behind_ended(stmt: Stmt, token: &Token) -> Option<State>
+    ensures { result ≡ spec.behind_ended stmt token.now }
+{
+    match token {
+        Token::Semi => Some(State::Flat(Place::Ended(stmt))),
+        _ => no_state(stmt),
+    }
+}
+
+fn no_state(_stmt: Stmt) -> Option<State>
+    ensures { result ≡ None }
+{
+    None
+}
+
+/// Behind `DROP TABLE IF`.
+pub(crate) fn behind_drop_if(table: Text, token: &Token) -> Option<State>
+    ensures { result ≡ spec.behind_drop_if table token.now }
+{
+    match token {
+        Token::Word(_, Word::Exists) => Some(State::Flat(Place::DropIfExists)),
+        _ => behind_ended(
+            Stmt::Drop {
+                if_exists: false,
+                table,
+            },
+            token,
+        ),
+    }
+}

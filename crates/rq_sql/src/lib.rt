@@ -1,0 +1,6 @@
+//! The statement reader.
+#![tactic(auto)]
+
+mod create_table;
+mod drop_table;
+mod names;
