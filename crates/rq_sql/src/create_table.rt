@@ -6,7 +6,7 @@ ghost use Rattle.rq_grammar.specs.Statements.{plain_column};
 ghost use Rattle.rq_grammar.specs.declared.place.Place.TheVariants as p;
 
 use crate::names::{Step, name_of};
-use rq_grammar::{ColumnDef, ColumnKind, NewTable, Place, State, Stmt, Token, Word};
+use rq_grammar::{ColumnDef, ColumnKind, MeasuredStmt, NewTable, Place, State, Token, Word};
 use rq_values::{NoMemory, Text};
 use sqlite_items::Items;
 use std::alloc::Global;
@@ -142,17 +142,6 @@ fn add_column(mut table: NewTable, column: ColumnDef) -> Result<NewTable, NoMemo
     Ok(table)
 }
 
-/// The statement.
-fn create(table: NewTable) -> Stmt
-    ensures { result ≡ spec.create table }
-{
-    Stmt::Create {
-        if_not_exists: table.if_not_exists,
-        table: table.table,
-        columns: table.columns,
-    }
-}
-
 /// Behind a column's kind, or one of its rules.
 pub(crate) fn behind_column(table: NewTable, column: ColumnDef, token: &Token) -> Step
     ensures { IfOk result (λ next. next ≡ spec.behind_column table column token.now) }
@@ -174,7 +163,9 @@ pub(crate) fn behind_column(table: NewTable, column: ColumnDef, token: &Token) -
         }
         Token::Word(_, Word::Unique) => unique(table, column),
         Token::Comma => Some(State::Flat(Place::ColumnStart(add_column(table, column)?))),
-        Token::Close => Some(State::Flat(Place::Ended(create(add_column(table, column)?)))),
+        Token::Close => Some(State::Flat(Place::Ended(MeasuredStmt::create(
+            add_column(table, column)?,
+        )))),
         _ => None,
     })
 }

@@ -1,12 +1,13 @@
 //! `DROP TABLE`, up to its end.
 
-ghost use Rattle.std.specs.Prelude.{◌≡◌, true};
+ghost use Rattle.std.specs.Prelude.{◌≡◌};
 ghost use Rattle.rq_grammar.specs.Places as spec;
 ghost use Rattle.rq_grammar.specs.declared.place.Place.TheVariants as p;
 ghost use Rattle.rq_grammar.specs.declared.stmt.Stmt.TheVariants as s;
 
+use crate::ended::behind_ended;
 use crate::names::name_of;
-use rq_grammar::{Place, State, Stmt, Token, Word};
+use rq_grammar::{MeasuredStmt, Place, State, Token, Word};
 use rq_values::Text;
 
 /// Behind `DROP`.
@@ -44,25 +45,9 @@ pub(crate) fn drop_named(if_exists: bool, token: Token) -> Option<State>
     ensures { result ≡ spec.on_name (spec.name_of token) (λ n. p.Ended (s.Drop if_exists n)) }
 {
     match name_of(token) {
-        Some(table) => Some(State::Flat(Place::Ended(Stmt::Drop { if_exists, table }))),
+        Some(table) => Some(State::Flat(Place::Ended(MeasuredStmt::drop_table(if_exists, table)))),
         None => None,
     }
-}
-
-/// Behind a whole statement.
-pub(crate) fn behind_ended(stmt: Stmt, token: &Token) -> Option<State>
-    ensures { result ≡ spec.behind_ended stmt token.now }
-{
-    match token {
-        Token::Semi => Some(State::Flat(Place::Ended(stmt))),
-        _ => no_state(stmt),
-    }
-}
-
-fn no_state(_stmt: Stmt) -> Option<State>
-    ensures { result ≡ None }
-{
-    None
 }
 
 /// Behind `DROP TABLE IF`.
@@ -71,12 +56,6 @@ pub(crate) fn behind_drop_if(table: Text, token: &Token) -> Option<State>
 {
     match token {
         Token::Word(_, Word::Exists) => Some(State::Flat(Place::DropIfExists)),
-        _ => behind_ended(
-            Stmt::Drop {
-                if_exists: false,
-                table,
-            },
-            token,
-        ),
+        _ => behind_ended(MeasuredStmt::drop_table(false, table), token),
     }
 }

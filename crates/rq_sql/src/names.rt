@@ -3,7 +3,7 @@
 ghost use Rattle.std.specs.Prelude.{◌≡◌, None};
 ghost use Rattle.rq_grammar.specs.Places as spec;
 
-use rq_grammar::{Place, State, Token};
+use rq_grammar::{State, Token};
 use rq_values::{NoMemory, Text};
 
 pub(crate) type Step = Result<Option<State>, NoMemory>;
@@ -29,10 +29,4 @@ fn no_name(_token: Token) -> Option<Text>
     ensures { result ≡ None }
 {
     None
-}
-
-pub(crate) fn flat(place: Place) -> Option<State>
-    ensures { result ≡ spec.flat place }
-{
-    Some(State::Flat(place))
 }
