@@ -3,4 +3,8 @@
 
 mod create_table;
 mod drop_table;
+mod modes;
 mod names;
+mod operand;
+mod operators;
+mod reduce;
