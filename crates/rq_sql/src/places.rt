@@ -1,7 +1,8 @@
 //! Between expressions: what each token leads to.
 
-ghost use Rattle.std.specs.Prelude.{◌≡◌, None, IfOk};
+ghost use Rattle.std.specs.Prelude.{◌≡◌, true, None, IfOk};
 ghost use Rattle.rq_grammar.specs.Places as spec;
+ghost use Rattle.rq_sql.specs.Later.{is_later, is_last};
 
 use crate::create_table::{
     behind_column, behind_column_name, behind_create, behind_create_if, behind_create_if_not,
@@ -62,6 +63,17 @@ pub(crate) fn place_step(alloc: Global, place: Place, token: Token) -> Step
         Place::DropTable => Ok(behind_drop_table(token)),
         Place::DropIf(table) => Ok(behind_drop_if(table, &token)),
         Place::DropIfExists => Ok(drop_named(true, token)),
+        other => later_step(alloc, other, token),
+    }
+}
+
+/// The state behind the token in INSERT and UPDATE, or further on in the list of places.
+#[tactic(auto, unfolding(rq_grammar::specs::Places::place_step))]
+fn later_step(alloc: Global, place: Place, token: Token) -> Step
+    requires { is_later place ≡ true }
+    ensures { IfOk result (λ next. next ≡ spec.place_step place token) }
+{
+    match place {
         Place::Insert => Ok(behind_insert(&token)),
         Place::Into => Ok(table_named(token)),
         Place::Table(table) => Ok(behind_table(alloc, table, &token)),
@@ -75,6 +87,17 @@ pub(crate) fn place_step(alloc: Global, place: Place, token: Token) -> Step
         Place::SetStart(table, sets) => Ok(set_named(table, sets, token)),
         Place::SetName(table, sets, name) => behind_set_name(alloc, table, sets, name, &token),
         Place::Sets(table, sets) => behind_sets(alloc, table, sets, &token),
+        other => last_step(alloc, other, token),
+    }
+}
+
+/// The state behind the token in DELETE or a select, or behind a whole statement.
+#[tactic(auto, unfolding(rq_grammar::specs::Places::place_step))]
+fn last_step(alloc: Global, place: Place, token: Token) -> Step
+    requires { is_last place ≡ true }
+    ensures { IfOk result (λ next. next ≡ spec.place_step place token) }
+{
+    match place {
         Place::Delete => Ok(behind_delete(&token)),
         Place::DeleteFrom => Ok(delete_named(token)),
         Place::DeleteTable(table) => behind_delete_table(alloc, table, &token),
@@ -84,6 +107,7 @@ pub(crate) fn place_step(alloc: Global, place: Place, token: Token) -> Step
         Place::From(query) => Ok(from_named(query, token)),
         Place::Order(query) => behind_order(alloc, query, &token),
         Place::Ended(stmt) => Ok(behind_ended(stmt, &token)),
+        _other => unreachable!(),
     }
 }
 
