@@ -124,7 +124,10 @@ impl MeasuredQuery {
     {
         let levels = expr.levels();
         let expr = expr.into_inner();
-        self.query.select.results.push(ResultItem::Value { expr, alias })?;
+        self.query
+            .select
+            .results
+            .push(ResultItem::Value { expr, alias })?;
         self.results = self.results.max(levels);
         Ok(self)
     }
@@ -151,7 +154,10 @@ impl MeasuredQuery {
     {
         let levels = expr.levels();
         let expr = expr.into_inner();
-        self.query.select.order.push(OrderTerm { expr, descending })?;
+        self.query
+            .select
+            .order
+            .push(OrderTerm { expr, descending })?;
         self.order = self.order.max(levels);
         Ok(self)
     }

@@ -47,11 +47,7 @@ fn with_row(mut rows: MeasuredRows, row: MeasuredList) -> Result<MeasuredRows, N
 }
 
 /// What is set, with one more column at its end.
-fn with_set(
-    mut sets: MeasuredSets,
-    name: Text,
-    expr: Measured,
-) -> Result<MeasuredSets, NoMemory>
+fn with_set(mut sets: MeasuredSets, name: Text, expr: Measured) -> Result<MeasuredSets, NoMemory>
     ensures { IfOk result (λ is. is ≡ sets ++ (name, expr) ∷ []) }
 {
     sets.push(name, expr)?;

@@ -163,9 +163,9 @@ pub(crate) fn behind_column(table: NewTable, column: ColumnDef, token: &Token) -
         }
         Token::Word(_, Word::Unique) => unique(table, column),
         Token::Comma => Some(State::Flat(Place::ColumnStart(add_column(table, column)?))),
-        Token::Close => Some(State::Flat(Place::Ended(MeasuredStmt::create(
-            add_column(table, column)?,
-        )))),
+        Token::Close => Some(State::Flat(Place::Ended(MeasuredStmt::create(add_column(
+            table, column,
+        )?)))),
         _ => None,
     })
 }

@@ -13,13 +13,7 @@ pub(crate) fn name_of(token: Token) -> Option<Text>
     ensures { result ≡ spec.name_of token }
 {
     match token {
-        Token::Word(name, word) => {
-            if word.is_reserved() {
-                None
-            } else {
-                Some(name)
-            }
-        }
+        Token::Word(name, word) => { if word.is_reserved() { None } else { Some(name) } }
         Token::Quoted(name) => Some(name),
         other => no_name(other),
     }

@@ -72,12 +72,7 @@ pub(crate) fn behind_set_name(
 }
 
 /// Behind `name = expression`.
-pub(crate) fn behind_sets(
-    alloc: Global,
-    table: Text,
-    sets: MeasuredSets,
-    token: &Token,
-) -> Step
+pub(crate) fn behind_sets(alloc: Global, table: Text, sets: MeasuredSets, token: &Token) -> Step
     ensures { IfOk result (λ next. next ≡ spec.behind_sets table sets token.now) }
 {
     match token {
