@@ -4,6 +4,7 @@ ghost use Rattle.std.specs.Prelude.{◌≡◌};
 ghost use Rattle.rq_grammar.specs.Places as spec;
 ghost use Rattle.rq_grammar.specs.declared.place.Place.TheVariants as p;
 ghost use Rattle.rq_grammar.specs.declared.stmt.Stmt.TheVariants as s;
+ghost use Rattle.rq_sql.specs.Told.{is_if};
 
 use crate::ended::behind_ended;
 use crate::names::name_of;
@@ -20,13 +21,22 @@ pub(crate) fn behind_drop(token: &Token) -> Option<State>
     }
 }
 
+/// Whether the token is the word IF.
+fn is_if(token: &Token) -> bool
+    ensures { result ≡ is_if token.now }
+{
+    matches!(token, Token::Word(_, Word::If))
+}
+
 /// Behind `DROP TABLE`.
+#[tactic(auto, using(crate::proofs::Told::dropped_if, crate::proofs::Told::dropped_else))]
 pub(crate) fn behind_drop_table(token: Token) -> Option<State>
     ensures { result ≡ spec.behind_drop_table token }
 {
-    match &token {
-        Token::Word(_, Word::If) => drop_if(token),
-        _ => drop_named(false, token),
+    if is_if(&token) {
+        drop_if(token)
+    } else {
+        drop_named(false, token)
     }
 }
 

@@ -2,12 +2,10 @@
 
 ghost use Rattle.std.specs.Prelude.{◌≡◌, ◌∷◌, [], Some, None, IfOk};
 ghost use Rattle.rq_grammar.specs.Places as spec;
-ghost use Rattle.rq_grammar.specs.Stack as stack;
-ghost use Rattle.rq_grammar.specs.declared.frame.Clause.TheVariants as c;
-ghost use Rattle.rq_grammar.specs.declared.frame.Frame.TheVariants as f;
 ghost use Rattle.rq_grammar.specs.declared.place.Place.TheVariants as p;
 ghost use Rattle.rq_grammar.specs.declared.place.Stage.TheVariants as stage;
 ghost use Rattle.rq_grammar.specs.declared.stmt.ResultItem.TheVariants as item;
+ghost use Rattle.rq_sql.specs.Told.{is_from, is_where};
 
 use crate::clauses::{inside, stack_of};
 use crate::ended::behind_ended;
@@ -104,23 +102,41 @@ fn behind_where(alloc: Global, query: MeasuredQuery, token: &Token) -> Step
     }
 }
 
+/// Whether the token is the word FROM.
+fn is_from(token: &Token) -> bool
+    ensures { result ≡ is_from token.now }
+{
+    matches!(token, Token::Word(_, Word::From))
+}
+
+/// Whether the token is the word WHERE.
+fn is_where(token: &Token) -> bool
+    ensures { result ≡ is_where token.now }
+{
+    matches!(token, Token::Word(_, Word::Where))
+}
+
 /// Behind the table.
+#[tactic(auto, using(crate::proofs::Told::filtered_then, crate::proofs::Told::filtered_else))]
 fn behind_from(alloc: Global, query: MeasuredQuery, token: &Token) -> Step
     ensures { IfOk result (λ next. next ≡ spec.behind_from query token.now) }
 {
-    match token {
-        Token::Word(_, Word::Where) => inside(alloc, Clause::Filter(query)),
-        _ => behind_where(alloc, query, token),
+    if is_where(token) {
+        inside(alloc, Clause::Filter(query))
+    } else {
+        behind_where(alloc, query, token)
     }
 }
 
 /// Behind the results.
+#[tactic(auto, using(crate::proofs::Told::sourced_then, crate::proofs::Told::sourced_else))]
 fn behind_results(alloc: Global, query: MeasuredQuery, token: &Token) -> Step
     ensures { IfOk result (λ next. next ≡ spec.behind_results query token.now) }
 {
-    match token {
-        Token::Word(_, Word::From) => Ok(Some(State::Flat(Place::From(query)))),
-        _ => behind_from(alloc, query, token),
+    if is_from(token) {
+        Ok(Some(State::Flat(Place::From(query))))
+    } else {
+        behind_from(alloc, query, token)
     }
 }
 
