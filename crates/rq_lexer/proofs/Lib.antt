@@ -1,0 +1,5 @@
+pub mod Plain
+pub mod Numbers
+pub mod Fronts
+pub mod Cut
+pub mod Spelled
