@@ -1,2 +1,4 @@
 pub mod Small
+pub mod Raised
+pub mod Marks
 pub mod Told

@@ -43,19 +43,17 @@ pub(crate) fn dotted(stack: Stack, table: Text, token: Token) -> Option<State>
 }
 
 /// Behind `name (`
-pub(crate) fn called(
-    alloc: Global,
-    stack: Stack,
-    is_count: bool,
-    name: Text,
-    token: Token,
-) -> Step
+pub(crate) fn called(alloc: Global, stack: Stack, is_count: bool, name: Text, token: Token) -> Step
     ensures { IfOk result (λ x. x ≡ spec.opened stack is_count name token) }
 {
     let args = MeasuredList::new(alloc);
     match token {
         Token::Close => Ok(Some(State::Done(stack, 9, Measured::call(name, args)))),
-        Token::Star => Ok(if is_count { Some(State::Counted(stack)) } else { None }),
+        Token::Star => Ok(if is_count {
+            Some(State::Counted(stack))
+        } else {
+            None
+        }),
         other => pushed(stack, Frame::Args { name, args }, other),
     }
 }
