@@ -1,2 +1,2 @@
+pub mod Keywords
 pub mod Small
-pub mod Told

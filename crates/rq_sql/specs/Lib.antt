@@ -1,3 +1,3 @@
 pub mod Behind
 pub mod Later
-pub mod Told
+pub mod Keywords
