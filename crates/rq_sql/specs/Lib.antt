@@ -1,4 +1,4 @@
 pub mod Behind
 pub mod Later
-pub mod Told
+pub mod Keywords
 pub mod Marks

@@ -4,7 +4,7 @@ ghost use Rattle.std.specs.Prelude.{◌≡◌};
 ghost use Rattle.rq_grammar.specs.Places as spec;
 ghost use Rattle.rq_grammar.specs.declared.place.Place.TheVariants as p;
 ghost use Rattle.rq_grammar.specs.declared.stmt.Stmt.TheVariants as s;
-ghost use Rattle.rq_sql.specs.Told.{is_if};
+ghost use Rattle.rq_sql.specs.Keywords.{is_if};
 
 use crate::ended::behind_ended;
 use crate::names::name_of;
@@ -29,7 +29,7 @@ fn is_if(token: &Token) -> bool
 }
 
 /// Behind `DROP TABLE`.
-#[tactic(auto, using(crate::proofs::Told::dropped_if, crate::proofs::Told::dropped_else))]
+#[tactic(auto, using(crate::proofs::Keywords::drop_then, crate::proofs::Keywords::drop_else))]
 pub(crate) fn behind_drop_table(token: Token) -> Option<State>
     ensures { result ≡ spec.behind_drop_table token }
 {

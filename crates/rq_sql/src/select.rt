@@ -5,7 +5,7 @@ ghost use Rattle.rq_grammar.specs.Places as spec;
 ghost use Rattle.rq_grammar.specs.declared.place.Place.TheVariants as p;
 ghost use Rattle.rq_grammar.specs.declared.place.Stage.TheVariants as stage;
 ghost use Rattle.rq_grammar.specs.declared.stmt.ResultItem.TheVariants as item;
-ghost use Rattle.rq_sql.specs.Told.{is_from, is_where};
+ghost use Rattle.rq_sql.specs.Keywords.{is_from, is_where};
 
 use crate::clauses::{inside, stack_of};
 use crate::ended::behind_ended;
@@ -117,7 +117,7 @@ fn is_where(token: &Token) -> bool
 }
 
 /// Behind the table.
-#[tactic(auto, using(crate::proofs::Told::filtered_then, crate::proofs::Told::filtered_else))]
+#[tactic(auto, using(crate::proofs::Keywords::from_then, crate::proofs::Keywords::from_else))]
 fn behind_from(alloc: Global, query: MeasuredQuery, token: &Token) -> Step
     ensures { IfOk result (λ next. next ≡ spec.behind_from query token.now) }
 {
@@ -129,7 +129,7 @@ fn behind_from(alloc: Global, query: MeasuredQuery, token: &Token) -> Step
 }
 
 /// Behind the results.
-#[tactic(auto, using(crate::proofs::Told::sourced_then, crate::proofs::Told::sourced_else))]
+#[tactic(auto, using(crate::proofs::Keywords::results_then, crate::proofs::Keywords::results_else))]
 fn behind_results(alloc: Global, query: MeasuredQuery, token: &Token) -> Step
     ensures { IfOk result (λ next. next ≡ spec.behind_results query token.now) }
 {
