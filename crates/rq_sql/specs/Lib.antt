@@ -1,0 +1,4 @@
+pub mod Behind
+pub mod Later
+pub mod Keywords
+pub mod Marks
