@@ -2,7 +2,7 @@
 
 ghost use Rattle.std.specs.Prelude.{◌≡◌, true, None, IfOk};
 ghost use Rattle.rq_grammar.specs.Places as spec;
-ghost use Rattle.rq_sql.specs.Later.{is_later, is_last};
+ghost use Rattle.rq_machine.specs.Later.{is_later, is_last};
 
 use crate::create_table::{
     behind_column, behind_column_name, behind_create, behind_create_if, behind_create_if_not,

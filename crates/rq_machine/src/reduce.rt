@@ -4,7 +4,7 @@ ghost use Rattle.std.specs.Prelude.{◌≡◌, ◌∷◌, IfOk, false};
 ghost use Rattle.rq_grammar.specs.Stack as spec;
 ghost use Rattle.rq_grammar.specs.Load.{is_clause};
 ghost use Rattle.rq_grammar.specs.declared.frame.State.TheVariants as s;
-ghost use Rattle.rq_sql.specs.Behind.{IsTied, IsOpen};
+ghost use Rattle.rq_machine.specs.Behind.{IsTied, IsOpen};
 
 use rq_grammar::{Frame, Measured, Stack, State};
 use rq_values::NoMemory;

@@ -1,6 +1,6 @@
 use Rattle.std.proofs.Common.{◌≡◌, sym, ◌∙◌}
-use Rattle.rq_sql.proofs.Raised.{utf8_of, not_made, raised_is_text}
-use Rattle.rq_sql.proofs.upper.upper.Goals as goal
+use Rattle.rq_machine.proofs.Raised.{utf8_of, not_made, raised_is_text}
+use Rattle.rq_machine.proofs.upper.upper.Goals as goal
 
 pub returns-in-Err : goal.returns-in-Err
 returns-in-Err c = absurd (c.in-Err.ensures.cases.0 (utf8_of _ _ c.bytes.ensures.bytes c.bytes.ensures.text))

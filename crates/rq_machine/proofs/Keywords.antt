@@ -8,7 +8,7 @@ use Rattle.rq_grammar.specs.declared.place.Query.{Query}
 use Rattle.rq_grammar.specs.declared.place.Place.TheVariants as p
 use Rattle.rq_grammar.specs.declared.frame.Clause.TheVariants as c
 use Rattle.rq_grammar.specs.Places.{flat, inside, name_of, on_name, behind_drop_table, behind_where, behind_from, behind_results}
-use Rattle.rq_sql.specs.Keywords.{is_if, is_from, is_where}
+use Rattle.rq_machine.specs.Keywords.{is_if, is_from, is_where}
 
 pub drop_then : (u : Token) → is_if u ≡ true → behind_drop_table u ≡ on_name (name_of u) p.DropIf
 drop_then (t.Word n w.If) h = refl

@@ -5,7 +5,7 @@ ghost use Rattle.rq_grammar.specs.Places as spec;
 ghost use Rattle.rq_grammar.specs.declared.place.Place.TheVariants as p;
 ghost use Rattle.rq_grammar.specs.declared.place.Stage.TheVariants as stage;
 ghost use Rattle.rq_grammar.specs.declared.stmt.ResultItem.TheVariants as item;
-ghost use Rattle.rq_sql.specs.Keywords.{is_from, is_where};
+ghost use Rattle.rq_machine.specs.Keywords.{is_from, is_where};
 
 use crate::clauses::{inside, stack_of};
 use crate::ended::behind_ended;

@@ -4,7 +4,7 @@ ghost use Rattle.std.specs.Prelude.{◌≡◌};
 ghost use Rattle.rq_grammar.specs.Places as spec;
 ghost use Rattle.rq_grammar.specs.declared.place.Place.TheVariants as p;
 ghost use Rattle.rq_grammar.specs.declared.stmt.Stmt.TheVariants as s;
-ghost use Rattle.rq_sql.specs.Keywords.{is_if};
+ghost use Rattle.rq_machine.specs.Keywords.{is_if};
 
 use crate::ended::behind_ended;
 use crate::names::name_of;

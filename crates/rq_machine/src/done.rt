@@ -2,7 +2,7 @@
 
 ghost use Rattle.std.specs.Prelude.{◌≡◌, IfOk, None};
 ghost use Rattle.rq_grammar.specs.Machine as spec;
-ghost use Rattle.rq_sql.specs.Marks.{mark_operator};
+ghost use Rattle.rq_machine.specs.Marks.{mark_operator};
 
 use crate::ending::ended;
 use crate::names::Step;

@@ -55,7 +55,7 @@ pub(crate) fn fits(opened: u32, state: &State) -> bool
 }
 
 /// How many parentheses are open behind the token.
-pub(crate) fn open_behind(opened: u32, token: &Token) -> u32
+pub fn open_behind(opened: u32, token: &Token) -> u32
     requires { opened ≤ 250 }
     ensures { result ≡ spec.open_behind opened token.now }
 {

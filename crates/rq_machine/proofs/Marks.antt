@@ -6,7 +6,7 @@ use Rattle.rq_grammar.specs.declared.expr.BinaryOp.{BinaryOp}
 use Rattle.rq_grammar.specs.declared.expr.Expr.{Expr}
 use Rattle.rq_grammar.specs.Stack.{Stack, binary}
 use Rattle.rq_grammar.specs.Machine.{done}
-use Rattle.rq_sql.specs.Marks.{mark_operator}
+use Rattle.rq_machine.specs.Marks.{mark_operator}
 
 same : (o o' : BinaryOp) (m : ℕ) (st : Stack) (a : Expr) → Some o ≡ Some o' → binary o m st a ≡ binary o' m st a
 same o o' m st a h = let e : o ≡ o' = cc in ap (λ o. binary o m st a) e
