@@ -1,0 +1,31 @@
+//! The machine that reads statements, in code: a state and a token give the next state, within the limits.
+//!
+//! The definitions are those of rq_grammar; docs/SQL.md, "What is refused, and where".
+#![tactic(auto)]
+
+mod clauses;
+mod create_table;
+mod delete;
+mod done;
+mod drop_table;
+mod ended;
+mod ending;
+mod insert;
+mod limits;
+mod modes;
+mod names;
+mod operand;
+mod operators;
+mod place_weights;
+mod places;
+mod reduce;
+mod select;
+mod step;
+mod stop;
+mod update;
+mod upper;
+mod within;
+
+pub use limits::open_behind;
+pub use stop::Stop;
+pub use within::{advance, finish};

@@ -1,0 +1,163 @@
+//! The token within an operand, and behind `operand NOT`, `operand IS` and `operand IN`.
+
+ghost use Rattle.std.specs.Prelude.{◌≡◌, IfOk, None};
+ghost use Rattle.rq_grammar.specs.Stack as spec;
+ghost use Rattle.rq_grammar.specs.declared.token.Token.TheVariants as t;
+
+use crate::names::Step;
+use crate::operand::pushed;
+use crate::reduce::on;
+use rq_grammar::{BinaryOp, Frame, Measured, MeasuredList, Stack, State, Token, Word};
+use rq_values::Text;
+use std::alloc::Global;
+
+/// Lets go of what no token may follow.
+fn no_name(_stack: Stack, _name: Text, _token: Token) -> Option<State>
+    ensures { result ≡ None }
+{
+    None
+}
+
+/// Lets go of what no token may follow.
+fn no_left(_stack: Stack, _left: Measured, _token: Token) -> Option<State>
+    ensures { result ≡ None }
+{
+    None
+}
+
+/// Behind `name .`
+pub(crate) fn dotted(stack: Stack, table: Text, token: Token) -> Option<State>
+    ensures { result ≡ spec.dotted stack table token }
+{
+    match token {
+        Token::Word(column, word) => {
+            if word.is_reserved() || word.is_time() {
+                None
+            } else {
+                Some(State::Done(stack, 9, Measured::qualified(table, column)))
+            }
+        }
+        Token::Quoted(column) => Some(State::Done(stack, 9, Measured::qualified(table, column))),
+        other => no_name(stack, table, other),
+    }
+}
+
+/// Behind `name (`
+pub(crate) fn called(alloc: Global, stack: Stack, is_count: bool, name: Text, token: Token) -> Step
+    ensures { IfOk result (λ x. x ≡ spec.opened stack is_count name token) }
+{
+    let args = MeasuredList::new(alloc);
+    match token {
+        Token::Close => Ok(Some(State::Done(stack, 9, Measured::call(name, args)))),
+        Token::Star => Ok(if is_count {
+            Some(State::Counted(stack))
+        } else {
+            None
+        }),
+        other => pushed(stack, Frame::Args { name, args }, other),
+    }
+}
+
+/// Behind `COUNT ( *`
+pub(crate) fn counted(stack: Stack, token: Token) -> Option<State>
+    ensures { result ≡ spec.counted stack token }
+{
+    match token {
+        Token::Close => Some(State::Done(stack, 9, Measured::count_all())),
+        other => no_left(stack, Measured::count_all(), other),
+    }
+}
+
+/// Behind `operand NOT`
+pub(crate) fn denied(stack: Stack, left: Measured, token: Token) -> Step
+    ensures { IfOk result (λ x. x ≡ spec.denied stack left token) }
+{
+    match token {
+        Token::Word(name, word) => denied_word(stack, left, name, word),
+        other => Ok(no_left(stack, left, other)),
+    }
+}
+
+fn denied_word(stack: Stack, left: Measured, _name: Text, word: Word) -> Step
+    ensures { IfOk result (λ x. x ≡ spec.denied stack left (t.Word _name word)) }
+{
+    match word {
+        Word::Like => Ok(Some(on(
+            stack,
+            Frame::Binary {
+                op: BinaryOp::NotLike,
+                left,
+            },
+        )?)),
+        Word::In => Ok(Some(State::In(stack, true, left))),
+        Word::Between => Ok(Some(on(
+            stack,
+            Frame::Low {
+                negated: true,
+                left,
+            },
+        )?)),
+        _ => Ok(None),
+    }
+}
+
+/// Behind `operand IS`
+pub(crate) fn is(stack: Stack, left: Measured, token: Token) -> Step
+    ensures { IfOk result (λ x. x ≡ spec.is stack left token) }
+{
+    match token {
+        Token::Word(_name, Word::Not) => Ok(Some(on(
+            stack,
+            Frame::Binary {
+                op: BinaryOp::IsNot,
+                left,
+            },
+        )?)),
+        other => pushed(
+            stack,
+            Frame::Binary {
+                op: BinaryOp::Is,
+                left,
+            },
+            other,
+        ),
+    }
+}
+
+/// Behind `operand IN`, `operand NOT IN`
+pub(crate) fn among(stack: Stack, negated: bool, left: Measured, token: Token) -> Option<State>
+    ensures { result ≡ spec.among stack negated left token }
+{
+    match token {
+        Token::Open => Some(State::Listed(stack, negated, left)),
+        other => no_left(stack, left, other),
+    }
+}
+
+/// Behind `operand IN (`
+pub(crate) fn listed(
+    alloc: Global,
+    stack: Stack,
+    negated: bool,
+    left: Measured,
+    token: Token,
+) -> Step
+    ensures { IfOk result (λ x. x ≡ spec.listed stack negated left token) }
+{
+    let list = MeasuredList::new(alloc);
+    match token {
+        Token::Close => {
+            let expr = Measured::in_list(alloc, negated, left, list)?;
+            Ok(Some(State::Done(stack, 4, expr)))
+        }
+        other => pushed(
+            stack,
+            Frame::Among {
+                negated,
+                left,
+                list,
+            },
+            other,
+        ),
+    }
+}

@@ -1,0 +1,123 @@
+//! The token where an operand is to come.
+
+ghost use Rattle.std.specs.Prelude.{◌≡◌, ◌∷◌, IfOk, None, false};
+ghost use Rattle.rq_grammar.specs.Stack as spec;
+ghost use Rattle.rq_grammar.specs.Load.{is_clause};
+ghost use Rattle.rq_grammar.specs.declared.token.Token.TheVariants as t;
+ghost use Rattle.rq_grammar.specs.declared.frame.State.TheVariants as s;
+
+use crate::names::Step;
+use crate::reduce::on;
+use rq_grammar::{Frame, Measured, Stack, State, Token, Word};
+use rq_values::{NoMemory, Text, Value};
+
+/// The token where an operand is to come.
+pub(crate) fn operand(stack: Stack, token: Token) -> Step
+    ensures { IfOk result (λ x. x ≡ spec.operand stack token) }
+{
+    match token {
+        Token::Word(name, word) => operand_word(stack, name, word),
+        Token::Quoted(name) => Ok(Some(State::Quoted(stack, name))),
+        Token::String(text) => Ok(Some(leaf(stack, Measured::literal(Value::Text(text))))),
+        Token::Blob(bytes) => Ok(Some(leaf(stack, Measured::literal(Value::Blob(bytes))))),
+        Token::Numeral(n) => Ok(numeral(stack, n)),
+        Token::Parameter(name) => Ok(Some(leaf(stack, Measured::param(name)))),
+        Token::Open => Ok(Some(on(stack, Frame::Paren)?)),
+        Token::Plus => Ok(Some(State::Operand(with_plus(stack)?))),
+        Token::Minus => Ok(Some(State::Signed(stack))),
+        other => Ok(refuse(stack, other)),
+    }
+}
+
+/// An operand without parts is read.
+fn leaf(stack: Stack, expr: Measured) -> State
+    ensures { result ≡ s.Done stack 9 expr }
+{
+    State::Done(stack, 9, expr)
+}
+
+/// Lets go of what no token may follow.
+fn refuse(_stack: Stack, _token: Token) -> Option<State>
+    ensures { result ≡ None }
+{
+    None
+}
+
+fn operand_word(stack: Stack, name: Text, word: Word) -> Step
+    ensures { IfOk result (λ x. x ≡ spec.operand_word stack name word) }
+{
+    match word {
+        Word::Null => Ok(Some(leaf(stack, Measured::literal(Value::Null)))),
+        Word::CurrentTimestamp => Ok(Some(leaf(stack, Measured::current_timestamp()))),
+        Word::CurrentDate => Ok(Some(leaf(stack, Measured::current_date()))),
+        Word::CurrentTime => Ok(Some(leaf(stack, Measured::current_time()))),
+        Word::Not => {
+            if stack.room() <= 3 {
+                Ok(Some(on(stack, Frame::Not)?))
+            } else {
+                Ok(None)
+            }
+        }
+        Word::Count => Ok(Some(State::Named(stack, true, name))),
+        _ => {
+            if word.is_reserved() {
+                Ok(None)
+            } else {
+                Ok(Some(State::Named(stack, false, name)))
+            }
+        }
+    }
+}
+
+/// An integer without a sign.
+fn numeral(stack: Stack, n: u64) -> Option<State>
+    ensures { result ≡ spec.operand stack (t.Numeral n) }
+{
+    if n < 0x8000_0000_0000_0000 {
+        Some(leaf(stack, Measured::literal(Value::Int(n as i64))))
+    } else {
+        None
+    }
+}
+
+/// One more front `+`.
+fn with_plus(mut stack: Stack) -> Result<Stack, NoMemory>
+    ensures { IfOk result (λ s. s ≡ spec.with_plus stack) }
+{
+    if !stack.is_behind_plus() {
+        stack.push(Frame::Plus)?;
+    }
+    Ok(stack)
+}
+
+/// The token directly behind a front `-`.
+pub(crate) fn signed(stack: Stack, token: Token) -> Step
+    ensures { IfOk result (λ x. x ≡ spec.signed stack token) }
+{
+    match token {
+        Token::Numeral(n) => Ok(negative(stack, n)),
+        other => pushed(stack, Frame::Minus, other),
+    }
+}
+
+/// An integer behind a front `-`.
+fn negative(stack: Stack, n: u64) -> Option<State>
+    ensures { result ≡ spec.signed stack (t.Numeral n) }
+{
+    if n < 0x8000_0000_0000_0000 {
+        Some(leaf(stack, Measured::literal(Value::Int(-(n as i64)))))
+    } else if n == 0x8000_0000_0000_0000 {
+        Some(leaf(stack, Measured::literal(Value::Int(i64::MIN))))
+    } else {
+        None
+    }
+}
+
+/// An operand is to come, behind one more frame.
+pub(crate) fn pushed(mut stack: Stack, frame: Frame, token: Token) -> Step
+    requires { is_clause frame ≡ false }
+    ensures { IfOk result (λ x. x ≡ spec.operand (frame ∷ stack) token) }
+{
+    stack.push(frame)?;
+    operand(stack, token)
+}

@@ -1,0 +1,102 @@
+//! An operator behind an operand of level `m`.
+
+ghost use Rattle.std.specs.Prelude.{◌≡◌, ◌∷◌, IfOk, None, false};
+ghost use Rattle.rq_grammar.specs.Stack as spec;
+ghost use Rattle.rq_grammar.specs.declared.expr.BinaryOp.TheVariants as op;
+ghost use Rattle.rq_grammar.specs.declared.frame.Frame.TheVariants as f;
+ghost use Rattle.rq_grammar.specs.declared.frame.State.TheVariants as s;
+
+use crate::names::Step;
+use crate::reduce::{on, reduce, tied};
+use rq_grammar::{BinaryOp, Frame, Measured, Stack, State};
+use std::alloc::Global;
+
+pub(crate) fn binary(alloc: Global, op: BinaryOp, m: u8, stack: Stack, expr: Measured) -> Step
+    ensures { IfOk result (λ x. x ≡ spec.binary op m stack expr) }
+{
+    match tied(alloc, op.level(), m, stack, expr)? {
+        None => Ok(None),
+        Some((stack, left)) => Ok(Some(on(stack, Frame::Binary { op, left })?)),
+    }
+}
+
+pub(crate) fn is(alloc: Global, m: u8, stack: Stack, expr: Measured) -> Step
+    ensures { IfOk result (λ x. x ≡ spec.grouped m stack expr s.Is) }
+{
+    match tied(alloc, 4, m, stack, expr)? {
+        None => Ok(None),
+        Some((stack, left)) => Ok(Some(State::Is(stack, left))),
+    }
+}
+
+pub(crate) fn not(alloc: Global, m: u8, stack: Stack, expr: Measured) -> Step
+    ensures { IfOk result (λ x. x ≡ spec.grouped m stack expr s.Denied) }
+{
+    match tied(alloc, 4, m, stack, expr)? {
+        None => Ok(None),
+        Some((stack, left)) => Ok(Some(State::Denied(stack, left))),
+    }
+}
+
+pub(crate) fn among(alloc: Global, m: u8, stack: Stack, expr: Measured) -> Step
+    ensures { IfOk result (λ x. x ≡ spec.grouped m stack expr (λ st a. s.In st false a)) }
+{
+    match tied(alloc, 4, m, stack, expr)? {
+        None => Ok(None),
+        Some((stack, left)) => Ok(Some(State::In(stack, false, left))),
+    }
+}
+
+pub(crate) fn between(alloc: Global, m: u8, stack: Stack, expr: Measured) -> Step
+    ensures { IfOk result (λ x. x ≡ spec.grouped m stack expr (λ st a. s.Operand (f.Low false a ∷ st))) }
+{
+    match tied(alloc, 4, m, stack, expr)? {
+        None => Ok(None),
+        Some((stack, left)) => {
+            let low = Frame::Low {
+                negated: false,
+                left,
+            };
+            Ok(Some(on(stack, low)?))
+        }
+    }
+}
+
+/// The AND of a BETWEEN, or the operator.
+pub(crate) fn and(alloc: Global, m: u8, stack: Stack, expr: Measured) -> Step
+    ensures { IfOk result (λ x. x ≡ spec.split (spec.and_at m) (spec.reduce 2 stack expr)) }
+{
+    let (stack, expr) = reduce(alloc, stack, expr, 2)?;
+    and_at(m, stack, expr)
+}
+
+fn and_at(m: u8, mut stack: Stack, expr: Measured) -> Step
+    ensures { IfOk result (λ x. x ≡ spec.and_at m stack expr) }
+{
+    match stack.pop_low() {
+        Some((negated, left)) => Ok(Some(on(
+            stack,
+            Frame::High {
+                negated,
+                left,
+                low: expr,
+            },
+        )?)),
+        None => plain_and(m, stack, expr),
+    }
+}
+
+/// `AND`, where it ends no low end of a BETWEEN.
+fn plain_and(m: u8, stack: Stack, expr: Measured) -> Step
+    ensures { IfOk result (λ x. x ≡ spec.tied 2 m (stack, expr) (λ st a. s.Operand (f.Binary op.And a ∷ st))) }
+{
+    if 2 <= m && stack.room() <= 2 {
+        let frame = Frame::Binary {
+            op: BinaryOp::And,
+            left: expr,
+        };
+        Ok(Some(on(stack, frame)?))
+    } else {
+        Ok(None)
+    }
+}

@@ -1,0 +1,87 @@
+//! Ending what is open before a token.
+
+ghost use Rattle.std.specs.Prelude.{◌≡◌, ◌∷◌, IfOk, false};
+ghost use Rattle.rq_grammar.specs.Stack as spec;
+ghost use Rattle.rq_grammar.specs.Load.{is_clause};
+ghost use Rattle.rq_grammar.specs.declared.frame.State.TheVariants as s;
+ghost use Rattle.rq_machine.specs.Behind.{IsTied, IsOpen};
+
+use rq_grammar::{Frame, Measured, Stack, State};
+use rq_values::NoMemory;
+use std::alloc::Global;
+
+/// The expression of a frame whose operand is read.
+fn build(alloc: Global, frame: Frame, operand: Measured) -> Result<Measured, NoMemory>
+    ensures { IfOk result (λ x. x ≡ spec.build frame operand) }
+{
+    match frame {
+        Frame::Binary { op, left } => Measured::binary(alloc, op, left, operand),
+        Frame::Not => Measured::not(alloc, operand),
+        Frame::Minus => Measured::minus(alloc, operand),
+        Frame::High { negated, left, low } => Measured::between(alloc, negated, left, low, operand),
+        other => Ok(unchanged(other, operand)),
+    }
+}
+
+/// The operand of a frame that makes no node of it.
+fn unchanged(_frame: Frame, operand: Measured) -> Measured
+    ensures { result ≡ operand }
+{
+    operand
+}
+
+/// Ends what ends before an operator of this level.
+pub(crate) fn reduce(
+    alloc: Global,
+    mut stack: Stack,
+    mut expr: Measured,
+    level: u8,
+) -> Result<(Stack, Measured), NoMemory>
+    ensures { IfOk result (λ p. p ≡ spec.reduce level stack expr) }
+{
+    while let Some(frame) = stack.pop_closing(level) {
+        expr = build(alloc, frame, expr)?;
+    }
+    Ok((stack, expr))
+}
+
+/// Behind an operand of level `m`: the stack and the expression before an operator of level `k`, if one may stand here.
+pub(crate) fn tied(
+    alloc: Global,
+    k: u8,
+    m: u8,
+    stack: Stack,
+    expr: Measured,
+) -> Result<Option<(Stack, Measured)>, NoMemory>
+    ensures { IfOk result (λ r. IsTied k m (spec.reduce k stack expr) r) }
+{
+    let (stack, expr) = reduce(alloc, stack, expr, k)?;
+    if k <= m && stack.room() <= k {
+        Ok(Some((stack, expr)))
+    } else {
+        Ok(None)
+    }
+}
+
+/// What is open behind an operand, before an operator of level `k`.
+pub(crate) fn opened(
+    alloc: Global,
+    k: u8,
+    stack: Stack,
+    expr: Measured,
+) -> Result<(Option<Frame>, Stack, Measured), NoMemory>
+    ensures { IfOk result (λ r. IsOpen (spec.reduce k stack expr) r.0 r.1 r.2) }
+{
+    let (mut stack, expr) = reduce(alloc, stack, expr, k)?;
+    let frame = stack.pop();
+    Ok((frame, stack, expr))
+}
+
+/// An operand is to come, behind one more frame.
+pub(crate) fn on(mut stack: Stack, frame: Frame) -> Result<State, NoMemory>
+    requires { is_clause frame ≡ false }
+    ensures { IfOk result (λ x. x ≡ s.Operand (frame ∷ stack)) }
+{
+    stack.push(frame)?;
+    Ok(State::Operand(stack))
+}

@@ -1,0 +1,174 @@
+//! `SELECT`, between its expressions.
+
+ghost use Rattle.std.specs.Prelude.{◌≡◌, ◌∷◌, [], Some, None, IfOk};
+ghost use Rattle.rq_grammar.specs.Places as spec;
+ghost use Rattle.rq_grammar.specs.declared.place.Place.TheVariants as p;
+ghost use Rattle.rq_grammar.specs.declared.place.Stage.TheVariants as stage;
+ghost use Rattle.rq_grammar.specs.declared.stmt.ResultItem.TheVariants as item;
+ghost use Rattle.rq_machine.specs.Keywords.{is_from, is_where};
+
+use crate::clauses::{inside, stack_of};
+use crate::ended::behind_ended;
+use crate::names::{Step, name_of};
+use crate::operand::operand;
+use rq_grammar::{Clause, Measured, MeasuredQuery, Place, Stage, State, Token, Word};
+use rq_values::Text;
+use std::alloc::Global;
+
+/// A result is to come.
+pub(crate) fn result_at(alloc: Global, query: MeasuredQuery, token: Token) -> Step
+    ensures { IfOk result (λ next. next ≡ spec.result query token) }
+{
+    match &token {
+        Token::Star => Ok(Some(State::Flat(Place::Tail(Stage::Results, query.with_all()?)))),
+        _ => operand(stack_of(alloc, Clause::Results(query))?, token),
+    }
+}
+
+/// A result's name is to come.
+pub(crate) fn alias_named(query: MeasuredQuery, expr: Measured, token: Token) -> Step
+    ensures { IfOk result (λ next. next ≡ spec.on_name (spec.name_of token) (λ n. p.Tail stage.Results (spec.add_result query (item.Value expr (Some n))))) }
+{
+    on_alias(query, expr, name_of(token))
+}
+
+fn on_alias(query: MeasuredQuery, expr: Measured, name: Option<Text>) -> Step
+    ensures { IfOk result (λ next. next ≡ spec.on_name name (λ n. p.Tail stage.Results (spec.add_result query (item.Value expr (Some n))))) }
+{
+    match name {
+        Some(name) => {
+            let query = query.with_result(expr, Some(name))?;
+            Ok(Some(State::Flat(Place::Tail(Stage::Results, query))))
+        }
+        None => Ok(no_result(query, expr)),
+    }
+}
+
+fn no_result(_query: MeasuredQuery, _expr: Measured) -> Option<State>
+    ensures { result ≡ None }
+{
+    None
+}
+
+/// The table's name is to come.
+pub(crate) fn from_named(query: MeasuredQuery, token: Token) -> Option<State>
+    ensures { result ≡ spec.on_name (spec.name_of token) (λ n. p.Tail stage.Source (spec.with_table query n)) }
+{
+    on_from(query, name_of(token))
+}
+
+fn on_from(query: MeasuredQuery, name: Option<Text>) -> Option<State>
+    ensures { result ≡ spec.on_name name (λ n. p.Tail stage.Source (spec.with_table query n)) }
+{
+    match name {
+        Some(name) => Some(State::Flat(Place::Tail(Stage::Source, query.with_table(name)))),
+        None => no_query(query),
+    }
+}
+
+fn no_query(_query: MeasuredQuery) -> Option<State>
+    ensures { result ≡ None }
+{
+    None
+}
+
+/// Behind `ORDER`.
+pub(crate) fn behind_order(alloc: Global, query: MeasuredQuery, token: &Token) -> Step
+    ensures { IfOk result (λ next. next ≡ spec.behind_order query token.now) }
+{
+    match token {
+        Token::Word(_, Word::By) => inside(alloc, Clause::Order(query)),
+        _ => Ok(no_query(query)),
+    }
+}
+
+/// Behind the terms of the order.
+fn behind_order_by(alloc: Global, query: MeasuredQuery, token: &Token) -> Step
+    ensures { IfOk result (λ next. next ≡ spec.behind_order_by query token.now) }
+{
+    match token {
+        Token::Word(_, Word::Limit) => inside(alloc, Clause::Limit(query)),
+        _ => Ok(behind_ended(query.into_stmt(), token)),
+    }
+}
+
+/// Behind the condition.
+fn behind_where(alloc: Global, query: MeasuredQuery, token: &Token) -> Step
+    ensures { IfOk result (λ next. next ≡ spec.behind_where query token.now) }
+{
+    match token {
+        Token::Word(_, Word::Order) => Ok(Some(State::Flat(Place::Order(query)))),
+        _ => behind_order_by(alloc, query, token),
+    }
+}
+
+/// Whether the token is the word FROM.
+fn is_from(token: &Token) -> bool
+    ensures { result ≡ is_from token.now }
+{
+    matches!(token, Token::Word(_, Word::From))
+}
+
+/// Whether the token is the word WHERE.
+fn is_where(token: &Token) -> bool
+    ensures { result ≡ is_where token.now }
+{
+    matches!(token, Token::Word(_, Word::Where))
+}
+
+/// Behind the table.
+#[tactic(auto, using(crate::proofs::Keywords::from_then, crate::proofs::Keywords::from_else))]
+fn behind_from(alloc: Global, query: MeasuredQuery, token: &Token) -> Step
+    ensures { IfOk result (λ next. next ≡ spec.behind_from query token.now) }
+{
+    if is_where(token) {
+        inside(alloc, Clause::Filter(query))
+    } else {
+        behind_where(alloc, query, token)
+    }
+}
+
+/// Behind the results.
+#[tactic(auto, using(crate::proofs::Keywords::results_then, crate::proofs::Keywords::results_else))]
+fn behind_results(alloc: Global, query: MeasuredQuery, token: &Token) -> Step
+    ensures { IfOk result (λ next. next ≡ spec.behind_results query token.now) }
+{
+    if is_from(token) {
+        Ok(Some(State::Flat(Place::From(query))))
+    } else {
+        behind_from(alloc, query, token)
+    }
+}
+
+/// Behind a result, where one more may come.
+fn behind_result(alloc: Global, query: MeasuredQuery, token: &Token) -> Step
+    ensures { IfOk result (λ next. next ≡ spec.tail stage.Results query token.now) }
+{
+    match token {
+        Token::Comma => Ok(Some(State::Flat(Place::Result(query)))),
+        _ => behind_results(alloc, query, token),
+    }
+}
+
+/// Behind a term of the order, where one more may come.
+fn behind_term(alloc: Global, query: MeasuredQuery, token: &Token) -> Step
+    ensures { IfOk result (λ next. next ≡ spec.tail stage.Ordered query token.now) }
+{
+    match token {
+        Token::Comma => inside(alloc, Clause::Order(query)),
+        _ => behind_order_by(alloc, query, token),
+    }
+}
+
+/// Behind a part of a select.
+pub(crate) fn tail(alloc: Global, stage: Stage, query: MeasuredQuery, token: &Token) -> Step
+    ensures { IfOk result (λ next. next ≡ spec.tail stage query token.now) }
+{
+    match stage {
+        Stage::Results => behind_result(alloc, query, token),
+        Stage::Source => behind_from(alloc, query, token),
+        Stage::Filtered => behind_where(alloc, query, token),
+        Stage::Ordered => behind_term(alloc, query, token),
+        Stage::Limited => Ok(behind_ended(query.into_stmt(), token)),
+    }
+}

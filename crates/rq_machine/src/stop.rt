@@ -1,0 +1,10 @@
+//! Why the machine stops.
+
+/// Why the machine stops at a token.
+#[derive(Clone, Copy, Debug, PartialEq, Eq)]
+pub enum Stop {
+    /// No statement goes on with it.
+    NoStatement,
+    /// Only statements beyond the limits go on with it.
+    TooDeep,
+}

@@ -1,0 +1,50 @@
+//! The machine within the limits.
+
+ghost use Rattle.std.specs.Prelude.{◌≡◌, ◌≤◌, Ok, Err, IfOk, MatchResult, Some};
+ghost use Rattle.rq_grammar.specs.Depth as spec;
+ghost use Rattle.rq_grammar.specs.Machine as m;
+ghost use Rattle.rq_grammar.specs.Weight.{limited};
+ghost use Rattle.rq_machine.specs.Stop.{stop_of};
+
+use crate::limits::{fits, open_behind};
+use crate::step;
+use crate::stop::Stop;
+use rq_grammar::{State, Stmt, Token};
+use rq_values::NoMemory;
+use std::alloc::Global;
+
+/// The state behind the token, where so many parentheses are open before it; or why the machine stops there.
+pub fn advance(
+    alloc: Global,
+    opened: u32,
+    state: State,
+    token: Token,
+) -> Result<Result<State, Stop>, NoMemory>
+    requires { opened ≤ 250 }
+    ensures { IfOk result (λ r. MatchResult r (λ q. limited spec.the_limits (spec.open_behind opened token) (m.step state token) ≡ Ok q) (λ stop. limited spec.the_limits (spec.open_behind opened token) (m.step state token) ≡ Err (stop_of stop))) }
+{
+    let behind = open_behind(opened, &token);
+    match step::step(alloc, state, token)? {
+        Some(next) => Ok(limit(behind, next)),
+        None => Ok(Err(Stop::NoStatement)),
+    }
+}
+
+/// The state, where it is within the limits.
+fn limit(opened: u32, next: State) -> Result<State, Stop>
+    requires { opened ≤ 251 }
+    ensures { MatchResult result (λ q. limited spec.the_limits opened (Some next) ≡ Ok q) (λ stop. limited spec.the_limits opened (Some next) ≡ Err (stop_of stop)) }
+{
+    if fits(opened, &next) {
+        Ok(next)
+    } else {
+        Err(Stop::TooDeep)
+    }
+}
+
+/// The statement, if the tokens end here.
+pub fn finish(alloc: Global, state: State) -> Result<Option<Stmt>, NoMemory>
+    ensures { IfOk result (λ r. r ≡ m.finish state) }
+{
+    step::finish(alloc, state)
+}
