@@ -1,0 +1,4 @@
+pub mod Built
+pub mod Prepared
+pub mod Refused
+pub mod Shown

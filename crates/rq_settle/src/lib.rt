@@ -1,0 +1,10 @@
+//! Statements, made ready for the log: what is read, as far as it runs today.
+#![tactic(auto)]
+
+mod converting;
+mod preparing;
+mod refusing;
+mod showing;
+
+pub use converting::built;
+pub use preparing::{each_text_is_prepared, prepare};
