@@ -9,6 +9,7 @@ use Rattle.rq_cluster.specs.Play.{Took, Ends, BrokenOff, Reached, Wrote}
 use Rattle.rq_cluster.specs.Runs.{Runs, StopsAt}
 use Rattle.rq_cluster.specs.Feed.{After, PartOf, AtEnd}
 use Rattle.rq_cluster.proofs.Cutting.{at_last}
+use Rattle.rq_cluster.proofs.Readings.{Readable}
 use Rattle.rq_cluster.proofs.Whole.{cut_of, cut_short}
 
 last_is : (count : ℕ) (held : List ℕ) → 0 < length held → last_line count held ≡ record { text = held; upto = count } ∷ []
@@ -77,11 +78,11 @@ module _ (bytes left : List ℕ) (Failed : Type 0) (Kept : World → Type 0) whe
     subst (λ (o : List ℕ). Wrote bytes left Failed Kept r o) (append_assoc text x y) (with_last status line (text ++ x) r y ends last),
   )
 
-  pub cut_sink : (out : List ℕ) → BrokenOff (lines_of bytes) Kept out → Wrote bytes left Failed Kept 5 out
-  cut_sink out broken = Wrote.sink out (cut_short bytes left Failed out (cut_of (lines_of bytes) Kept out broken)) (Reached.in_lines out broken)
+  pub cut_sink : Readable → (out : List ℕ) → BrokenOff (lines_of bytes) Kept out → Wrote bytes left Failed Kept 5 out
+  cut_sink readable out broken = Wrote.sink out (cut_short readable bytes left Failed out (cut_of (lines_of bytes) Kept out broken)) (Reached.in_lines out broken)
 
-  pub cut_memory : (out : List ℕ) → BrokenOff (lines_of bytes) Kept out → Wrote bytes left Failed Kept 6 out
-  cut_memory out broken = Wrote.memory out (cut_short bytes left Failed out (cut_of (lines_of bytes) Kept out broken)) (Reached.in_lines out broken)
+  pub cut_memory : Readable → (out : List ℕ) → BrokenOff (lines_of bytes) Kept out → Wrote bytes left Failed Kept 6 out
+  cut_memory readable out broken = Wrote.memory out (cut_short readable bytes left Failed out (cut_of (lines_of bytes) Kept out broken)) (Reached.in_lines out broken)
 
 -- without a fault of the source
 wider_ends : (bytes left : List ℕ) (Failed : Type 0) (Kept : World → Type 0) (status : ℕ) (text last : List ℕ) → Ends bytes [] ⊥ Kept status text last → Ends bytes left Failed Kept status text last

@@ -10,6 +10,7 @@ mod Lists
 mod Moments
 mod NodeSteps
 mod Pieces
+mod Readings
 mod Sentences
 mod Servers
 mod Whole

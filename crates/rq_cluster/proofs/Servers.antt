@@ -14,7 +14,8 @@ use Rattle.rq_cluster.specs.Preparing.{listed, statements, AreRead}
 use Rattle.rq_cluster.specs.ScriptLine.{Line, Skip, Cluster as ClusterLine}
 use Rattle.rq_cluster.specs.Hosting.{server_of, file_of, event, Goes, BreaksOff}
 use Rattle.rq_cluster.specs.World.{World, Leads, Breaks, IsNew, ServerKept, PairKept}
-use Rattle.rq_cluster.proofs.Worlds.{event_does, ask_does, are_read, leads_by, breaks_by, breaks_nothing, breaks_start}
+use Rattle.rq_cluster.proofs.Readings.{are_read}
+use Rattle.rq_cluster.proofs.Worlds.{event_does, ask_does, leads_by, breaks_by, breaks_nothing, breaks_start}
 
 abbrev pub cluster_of : Option Host → ℕ → Cluster
 cluster_of host asks = record { server = option_map server_of host; asks = asks }
@@ -43,7 +44,7 @@ module _ (host : Option Host) (asks : ℕ) (c : Cluster) (h : Host) (seen : clus
   -- an ask
   pub ask_leads : (id body : List ℕ) (texts : List (List ℕ)) (rule : ℕ → List Item → Node → Turn) (line : Line) (items : List Item) (number : ℕ) (after : Host) (before text : List ℕ)
       → ((course : Course) (d : Cluster) → done items course d line ≡ ask_at course d id rule items body) → statements line ≡ listed (texts_of body)
-      → texts_of body ≡ Some texts → length items ≡ length texts → number ≡ asks + 1
+      → texts_of body ≡ Some texts → AreRead texts items → number ≡ asks + 1
       → bytes_eq h.id id ≡ true → Goes (event (server_of h) (rule number items) (number ∷ [])) before text (server_of after)
       → Leads c line before text (cluster_of (Some after) number)
   ask_leads id body texts rule line items number after before text is_ask stated lists count counts same goes =
@@ -66,7 +67,7 @@ module _ (host : Option Host) (asks : ℕ) (c : Cluster) (h : Host) (seen : clus
 
     pub ask_breaks : (pair : DiskPair D F) (id body : List ℕ) (texts : List (List ℕ)) (rule : ℕ → List Item → Node → Turn) (line : Line) (items : List Item) (number : ℕ)
         → ((course : Course) (d : Cluster) → done items course d line ≡ ask_at course d id rule items body) → statements line ≡ listed (texts_of body)
-        → texts_of body ≡ Some texts → length items ≡ length texts → number ≡ asks + 1
+        → texts_of body ≡ Some texts → AreRead texts items → number ≡ asks + 1
         → bytes_eq h.id id ≡ true → BreaksOff told means pair (event (server_of h) (rule number items) (number ∷ [])) (server_of h)
         → Breaks told means pair c line
     ask_breaks pair id body texts rule line items number is_ask stated lists count counts same broken =
@@ -94,7 +95,7 @@ module _ (host : Option Host) (asks : ℕ) (w : World) (seen : record { cluster 
   found_leads id after before text goes =
       subst (λ (v : World). Leads v.cluster (ClusterLine id) before text (cluster_of (Some after) asks)) seen
       (subst (λ (o : Option Host). Leads (cluster_of o asks) (ClusterLine id) before text (cluster_of (Some after) asks)) (sym (none_of host is))
-      (leads_by (cluster_of None asks) (cluster_of None asks) (server_of after) (first_server id) (ClusterLine id) [] before text refl (λ course. refl) goes))
+      (leads_by (cluster_of None asks) (cluster_of None asks) (server_of after) (first_server id) (ClusterLine id) [] before text tt (λ course. refl) goes))
 
   module _ {D F : Type 0} (told : Bool) (means : D → DiskMeaning) where
     pub found_new : (pair : DiskPair D F) → PairKept told means pair w → IsNew told means pair
@@ -114,7 +115,7 @@ of_none {T} o P Q is matches = subst (λ (p : Option T). MatchOption p P Q) is m
 
 -- a line that is skipped
 pub skips : (c : Cluster) (line : Line) (text : List ℕ) → line ≡ Skip → Leads c line text text c
-skips c line text is = subst (λ (l : Line). Leads c l text text c) (sym is) ([], Course.Whole, [], refl, refl, sym (append-nil text))
+skips c line text is = subst (λ (l : Line). Leads c l text text c) (sym is) ([], Course.Whole, [], tt, refl, sym (append-nil text))
 
 pub on_ok_map : {T E : Type 0} (r : Result T E) (P Q : Type 0) → (P → Q) → OnOk r P → OnOk r Q
 on_ok_map (Ok x) P Q f holds = f holds

@@ -6,6 +6,7 @@ use Rattle.rq_cluster.specs.Lines.{Line, lines_of, IsOver, IsWithin}
 use Rattle.rq_cluster.specs.LastLines.{stopped_line, IsPrefix}
 use Rattle.rq_cluster.specs.Play.{Ends, CutShort, BrokenOff}
 use Rattle.rq_cluster.specs.Runs.{Runs, StopsAt}
+use Rattle.rq_cluster.proofs.Readings.{Readable}
 use Rattle.rq_cluster.proofs.WorldLaws.{stepped, started_or_not}
 
 within : (l : Line) → IsOver l ⊎ IsWithin l
@@ -21,9 +22,9 @@ abbrev Goal : List Line → List ℕ → Type 0
 Goal all text = ((out : List ℕ) × (last : World) × Runs all (text ++ out) last × IsStarted last) ⊎ ((n : ℕ) × (out : List ℕ) × (w : World) × StopsAt all n (text ++ out) w)
 
 -- after some of the lines there is a whole text that goes on from theirs
-pub goes_on : (all more lines : List Line) (text : List ℕ) (w : World) → all ≡ lines ++ more → Runs lines text w
+pub goes_on : Readable → (all more lines : List Line) (text : List ℕ) (w : World) → all ≡ lines ++ more → Runs lines text w
     → Goal all text
-goes_on all [] lines text w is runs = at (started_or_not w)
+goes_on readable all [] lines text w is runs = at (started_or_not w)
   where
     here : Runs all (text ++ []) w
     here = subst (λ (ls : List Line). Runs ls (text ++ []) w) (sym (is ∙ append-nil lines)) (subst (λ (t : List ℕ). Runs lines t w) (sym (append-nil text)) runs)
@@ -31,7 +32,7 @@ goes_on all [] lines text w is runs = at (started_or_not w)
     at : IsStarted w ⊎ (IsStarted w → ⊥) → Goal all text
     at (inl started) = inl ([], w, here, started)
     at (inr free) = inr (length all + 1, [], w, StopsAt.at_end (text ++ []) w here free)
-goes_on all (l ∷ more) lines text w is runs = ⊎_elim over (fits (λ next_text next next_is next_runs. goes_on all more (lines ++ l ∷ []) next_text next next_is next_runs)) (within l)
+goes_on readable all (l ∷ more) lines text w is runs = ⊎_elim over (fits (λ next_text next next_is next_runs. goes_on readable all more (lines ++ l ∷ []) next_text next next_is next_runs)) (within l)
   where
     stop : IsOver l ⊎ IsOutside w l.text → Goal all text
     stop out = inr (length lines + 1, [], w, subst (λ (t : List ℕ). StopsAt all (length lines + 1) t w) (sym (append-nil text)) (StopsAt.at_line lines l more text w is runs out))
@@ -49,7 +50,7 @@ goes_on all (l ∷ more) lines text w is runs = ⊎_elim over (fits (λ next_tex
     fits on ok = ⊎_elim
         (λ (s : (t : List ℕ) × (next : World) × Steps w l.text t next). again s.0 (on (text ++ s.0) s.1 (is ∙ sym (append_assoc lines (l ∷ []) more)) (Runs.line l s.0 s.1 runs ok s.2)))
         (λ (out : IsOutside w l.text). stop (inr out))
-        (stepped w l.text)
+        (stepped readable w l.text)
 
 -- a front of the text of a run of some of the lines
 abbrev pub IsCut : List Line → List ℕ → Type 0
@@ -61,11 +62,11 @@ cut_of all Kept _ (BrokenOff.within lines l more text w reached is runs ok reach
 cut_of all Kept _ (BrokenOff.writing lines l more text w front said next is runs ok step pre kept) =
     (lines ++ l ∷ [], more, text ++ said, next, is ∙ sym (append_assoc lines (l ∷ []) more), Runs.line l said next runs ok step, (pre.0, append_assoc text front pre.0 ∙ ap (λ (t : List ℕ). text ++ t) pre.1))
 
-pub cut_short : (bytes left : List ℕ) (Failed : Type 0) (out : List ℕ) → IsCut (lines_of bytes) out → CutShort bytes left Failed out
-cut_short bytes left Failed out (lines, more, text, w, is, runs, (rest, front)) = ⊎_elim
+pub cut_short : Readable → (bytes left : List ℕ) (Failed : Type 0) (out : List ℕ) → IsCut (lines_of bytes) out → CutShort bytes left Failed out
+cut_short readable bytes left Failed out (lines, more, text, w, is, runs, (rest, front)) = ⊎_elim
     (λ f. (0, text ++ f.0, ending f.1, Ends.done (text ++ f.0) f.1 f.2 f.3 tt, longer f.0 (ending f.1)))
     (λ f. (3, text ++ f.1, stopped_line f.0, Ends.outside f.0 (text ++ f.1) f.2 f.3 tt, longer f.1 (stopped_line f.0)))
-    (goes_on (lines_of bytes) more lines text w is runs)
+    (goes_on readable (lines_of bytes) more lines text w is runs)
   where
     longer : (a b : List ℕ) → IsPrefix out ((text ++ a) ++ b)
     longer a b = (rest ++ (a ++ b), sym (append_assoc out rest (a ++ b)) ∙ ap (λ (t : List ℕ). t ++ (a ++ b)) front ∙ sym (append_assoc text a b))

@@ -7,13 +7,14 @@ use Rattle.rq_cluster.specs.Cluster.{Written, Whole, step}
 use Rattle.rq_cluster.specs.World.{World, first_world, Steps, IsOutside, IsStarted, IsNew, Holds, AreNew}
 use Rattle.std.specs.List.{AllByRecursion}
 use Rattle.std.proofs.lemmas.List.Elements.{recursion_from_All}
+use Rattle.rq_cluster.proofs.Readings.{Readable}
 use Rattle.rq_cluster.proofs.Worlds.{steps_somewhere}
 
-pub stepped : (w : World) (line : List ℕ) → ((text : List ℕ) × (next : World) × Steps w line text next) ⊎ IsOutside w line
-stepped w line = at (step [] Whole w.cluster line) refl
+pub stepped : Readable → (w : World) (line : List ℕ) → ((text : List ℕ) × (next : World) × Steps w line text next) ⊎ IsOutside w line
+stepped readable w line = at (step [] Whole w.cluster line) refl
   where
     at : (o : Option Written) → step [] Whole w.cluster line ≡ o → ((text : List ℕ) × (next : World) × Steps w line text next) ⊎ IsOutside w line
-    at (Some x) is = let somewhere = steps_somewhere w.cluster line x is in inl (somewhere.0, record { cluster = somewhere.1; file = None }, somewhere.2)
+    at (Some x) is = let somewhere = steps_somewhere readable w.cluster line x is in inl (somewhere.0, record { cluster = somewhere.1; file = None }, somewhere.2)
     at None is = inr is
 
 pub started_or_not : (w : World) → IsStarted w ⊎ (IsStarted w → ⊥)

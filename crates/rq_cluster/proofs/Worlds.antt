@@ -3,7 +3,6 @@ use Rattle.std.proofs.Common.{◌≡◌, inl, inr, ℕ, suc, ◌+◌, List, [], 
 use Rattle.rq_outside.specs.declared.pair.DiskPair.{DiskPair}
 use Rattle.rq_outside.specs.Disk.{DiskMeaning}
 use Rattle.rq_engine.specs.declared.item.Item.{Item}
-use Rattle.rq_engine.specs.declared.item.Item.TheVariants.{Fail}
 use Rattle.rq_json.specs.Body.{texts_of}
 use Rattle.rq_cluster.specs.Node.{Node, Turn}
 use Rattle.rq_cluster.specs.Rules.{execute, query}
@@ -11,6 +10,7 @@ use Rattle.rq_cluster.specs.Cluster.{Server, Cluster, Course, Whole, Written, ev
 use Rattle.rq_cluster.specs.Preparing.{listed, statements, statements_in, AreRead}
 use Rattle.rq_cluster.specs.ScriptLine.{Line, Skip, Cluster as ClusterLine, Elect, Apply, Execute, Query, line_of}
 use Rattle.rq_cluster.specs.Hosting.{Event, event, Goes, IsKept, stored_at, BreaksOff}
+use Rattle.rq_cluster.proofs.Readings.{Readable, some_items}
 use Rattle.rq_cluster.specs.World.{World, MayReach, Leads, ServerKept, PairKept, Breaks}
 
 -- an event at the server that is there
@@ -53,9 +53,6 @@ ask_elsewhere course c id body rule items none = by (texts_of body)
     by None = refl
     by (Some texts) = none
 
-pub are_read : (body : List ℕ) (texts : List (List ℕ)) (items : List Item) → texts_of body ≡ Some texts → length items ≡ length texts → AreRead (listed (texts_of body)) items
-are_read body texts items lists count = count ∙ ap (λ (o : Option (List (List ℕ))). length (listed o)) (sym lists)
-
 pub leads_by : (c next : Cluster) (after : Server) (e : Event) (line : Line) (items : List Item) (before text : List ℕ)
     → AreRead (statements line) items → ((course : Course) → done items course c line ≡ Some (record next { server = Some (e course).0 }, (e course).1))
     → Goes e before text after → Leads c line before text (record next { server = Some after })
@@ -84,7 +81,7 @@ module _ {D F : Type 0} (told : Bool) (means : D → DiskMeaning) where
   pub breaks_start : (pair : DiskPair D F) (c : Cluster) (id : List ℕ) → c.server ≡ None → Breaks told means pair c (ClusterLine id)
   breaks_start pair c id none = (
     record { cluster = record c { server = Some (first_server id Course.Broken).0 }; file = None },
-    inr ([], Course.Broken, (first_server id Course.Broken).1, refl, ap (λ (o : Option Server). founded Course.Broken (record c { server = o }) id) none),
+    inr ([], Course.Broken, (first_server id Course.Broken).1, tt, ap (λ (o : Option Server). founded Course.Broken (record c { server = o }) id) none),
     refl,
   )
 
@@ -162,21 +159,13 @@ lines_alike course c (Apply id) items x is = (x, is)
 lines_alike course c (Execute id body) items x is = asks_alike course c id body (λ number read n. execute n number read) items x is
 lines_alike course c (Query id body) items x is = asks_alike course c id body (λ number read n. query n number read) items x is
 
-abbrev any_items : List (List ℕ) → List Item
-any_items [] = []
-any_items (text ∷ texts) = Fail text ∷ any_items texts
-
-any_count : (texts : List (List ℕ)) → length (any_items texts) ≡ length texts
-any_count [] = refl
-any_count (text ∷ texts) = ap suc (any_count texts)
-
 -- a line that can stand here leads somewhere
-pub steps_somewhere : (c : Cluster) (bytes : List ℕ) (x : Written) → step [] Whole c bytes ≡ Some x → (text : List ℕ) × (next : Cluster) × Steps c bytes text next
-steps_somewhere c bytes x is = at (line_of bytes) refl
+pub steps_somewhere : Readable → (c : Cluster) (bytes : List ℕ) (x : Written) → step [] Whole c bytes ≡ Some x → (text : List ℕ) × (next : Cluster) × Steps c bytes text next
+steps_somewhere readable c bytes x is = at (line_of bytes) refl
   where
     at : (o : Option Line) → line_of bytes ≡ o → (text : List ℕ) × (next : Cluster) × Steps c bytes text next
     at None none = let e = step_none [] Whole c bytes none in absurd (cc)
     at (Some line) some =
-        let items = any_items (statements_in (line_of bytes)) in
-        let other = lines_alike Whole c line items x (sym (step_is [] Whole c bytes line some) ∙ is) in
-        (other.0.1, other.0.0, (record { items = items; are_read = any_count (statements_in (line_of bytes)); course = Whole }, step_is items Whole c bytes line some ∙ other.1))
+        let items = some_items readable (statements_in (line_of bytes)) in
+        let other = lines_alike Whole c line items.0 x (sym (step_is [] Whole c bytes line some) ∙ is) in
+        (other.0.1, other.0.0, (record { items = items.0; are_read = items.1; course = Whole }, step_is items.0 Whole c bytes line some ∙ other.1))

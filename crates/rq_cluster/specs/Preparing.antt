@@ -1,7 +1,8 @@
 -- What the statements of a line are read as.
-use Rattle.std.specs.Prelude.{◌≡◌, ℕ, List, [], length, Option, Some, None}
+use Rattle.std.specs.Prelude.{ℕ, List, [], ◌∷◌, Option, Some, None, ⊤}
 use Rattle.rq_engine.specs.declared.item.Item.{Item}
 use Rattle.rq_json.specs.Body.{texts_of}
+use Rattle.rq_settle.specs.Prepared.{IsPrepared}
 use Rattle.rq_cluster.specs.ScriptLine.{Line, Skip, Cluster, Elect, Apply, Execute, Query}
 
 -- the texts of the statements that a body lists, none where it isn't a list
@@ -22,6 +23,9 @@ abbrev pub statements_in : Option Line → List (List ℕ)
 statements_in None = []
 statements_in (Some line) = statements line
 
--- An item for each statement, in order. Which item a statement's text gives isn't said yet.
+-- each item is what its statement's text is prepared as
 abbrev pub AreRead : List (List ℕ) → List Item → Type 0
-AreRead texts items = length items ≡ length texts
+AreRead [] [] = ⊤
+AreRead [] (item ∷ items) = ⊥
+AreRead (text ∷ texts) [] = ⊥
+AreRead (text ∷ texts) (item ∷ items) = IsPrepared text item × AreRead texts items

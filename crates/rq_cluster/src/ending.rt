@@ -13,6 +13,7 @@ use crate::giving::give;
 use crate::progress::Progress;
 use crate::world::World;
 use rq_outside::{Disk, DiskPair, Sink, SinkError};
+use rq_settle::each_text_is_prepared;
 use std::alloc::Global;
 
 /// Does the line that has no LF, and answers the number of a line after the last.
@@ -95,6 +96,7 @@ pub fn end_script<D: Disk, K: Sink>(
     ensures later { K.faults sink.old ≤ K.faults sink.new }
     ensures cause { result ≡ 5 → Rose (K.faults sink.old) (K.faults sink.new) }
 {
+    each_text_is_prepared();
     match last_held(progress, alloc, disks, sink) {
         Ok(number) => {
             if progress.world.is_started() {

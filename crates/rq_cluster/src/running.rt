@@ -16,6 +16,7 @@ use crate::progress::Progress;
 use crate::reading_lines::read_all;
 use crate::words::{first_wrong, refuse};
 use rq_outside::{Disk, DiskPair, Draws, Sink, Source, Word};
+use rq_settle::each_text_is_prepared;
 use std::alloc::Global;
 
 /// Runs the script that a source gives, and answers the status.
@@ -32,6 +33,7 @@ fn run_script<S: Source, D: Disk, K: Sink>(
     ensures source { result ≡ 4 → Rose (S.faults source.old) (S.faults source.new) }
     ensures sink { result ≡ 5 → Rose (K.faults sink.old) (K.faults sink.new) }
 {
+    each_text_is_prepared();
     let mut progress = Progress::new(alloc);
     match read_all(&mut progress, alloc, source, disks, sink) {
         Ok(()) => end_script(&mut progress, alloc, disks, sink),

@@ -1,7 +1,8 @@
 //! The cluster of a script, and what its lines do: docs/SCRIPT.md, "Lines".
-ghost use Rattle.std.specs.Prelude.{◌≡◌, ◌++◌, ◌↔◌, ℕ, List, [], None, Some, IsTrue, IfOk, OnOk, IsErrOf, MatchOption, length};
+ghost use Rattle.std.specs.Prelude.{◌≡◌, ◌++◌, ◌↔◌, ℕ, List, [], None, Some, IsTrue, IfOk, OnOk, IsErrOf, MatchOption};
 ghost use Rattle.rq_json.specs.Body.{texts_of};
 ghost use Rattle.rq_cluster.specs.Cluster.{Whole, done};
+ghost use Rattle.rq_cluster.specs.Preparing.{AreRead};
 ghost use Rattle.rq_cluster.specs.ReadLine.{line_read};
 ghost use Rattle.rq_cluster.specs.ScriptLine as lines;
 ghost use Rattle.rq_cluster.specs.World.{World as TheWorld, first_world, Steps, IsOutside, MayReach, IsStarted, ending, Leads, Breaks, PairKept, Holds};
@@ -10,9 +11,10 @@ ghost use Rattle.rq_cluster.specs.declared.line_error.LineError.TheVariants.{Out
 use crate::host::Host;
 use crate::line_error::LineError;
 use crate::script::{ScriptLine, script_line};
-use rq_engine::{Item, prepare};
+use rq_engine::Item;
 use rq_json::statements_of;
 use rq_outside::{Disk, DiskPair};
+use rq_settle::prepare;
 use rq_values::{Id, NoMemory, Seq, Text};
 use std::alloc::Global;
 use std::marker::Model;
@@ -266,7 +268,7 @@ impl World {
 
 /// The prepared statements of a body, or None exactly where it is no list of them.
 fn items_of(alloc: Global, body: &[u8]) -> Result<Option<Seq<Item>>, NoMemory>
-    ensures { IfOk result (λ items. MatchOption items (texts_of body.now ≡ None) (λ list. (texts : List (List ℕ)) × (texts_of body.now ≡ Some texts) × (length list ≡ length texts))) }
+    ensures { IfOk result (λ items. MatchOption items (texts_of body.now ≡ None) (λ list. (texts : List (List ℕ)) × (texts_of body.now ≡ Some texts) × AreRead texts list)) }
 {
     match statements_of(alloc, body)? {
         Some(texts) => Ok(Some(prepared_all(alloc, texts.as_slice())?)),
@@ -275,8 +277,9 @@ fn items_of(alloc: Global, body: &[u8]) -> Result<Option<Seq<Item>>, NoMemory>
 }
 
 /// The statements, prepared.
+#[tactic(auto, using(crate::proofs::Readings::none_read, crate::proofs::Readings::one_more_read))]
 fn prepared_all(alloc: Global, texts: &[Text]) -> Result<Seq<Item>, NoMemory>
-    ensures { IfOk result (λ items. length items ≡ length texts.now) }
+    ensures { IfOk result (λ items. AreRead texts.now items) }
 {
     let mut items = Seq::new(alloc);
     for text in texts {

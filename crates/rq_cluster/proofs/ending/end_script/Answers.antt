@@ -50,10 +50,10 @@ pub returns-in-Err-Sink-clause-wrote : goal.returns-in-Err-Sink-clause-wrote
 returns-in-Err-Sink-clause-wrote g c read text s =
     let K = Holds g.D.Disk.told g.D.Disk.means c.last_held.new.disks.items in
     map_took g.K.Sink.told (g.K.Sink.taken c.args.sink.now) (g.K.Sink.taken c.last_held.new.sink) (λ out. BrokenOff (lines_of read) K (text ++ out)) (λ out. Wrote read [] ⊥ K 5 (text ++ out))
-    (λ out a. cut_sink read [] ⊥ K (text ++ out) a) (c.in-Err-Sink.ensures.part read text s)
+    (λ out a. cut_sink read [] ⊥ K c.each_text_is_prepared.ensures.some (text ++ out) a) (c.in-Err-Sink.ensures.part read text s)
 
 pub returns-in-Err-clause-wrote : goal.returns-in-Err-clause-wrote
 returns-in-Err-clause-wrote g c read text s =
     let K = Holds g.D.Disk.told g.D.Disk.means c.last_held.new.disks.items in
     map_took g.K.Sink.told (g.K.Sink.taken c.args.sink.now) (g.K.Sink.taken c.last_held.new.sink) (λ out. BrokenOff (lines_of read) K (text ++ out)) (λ out. Wrote read [] ⊥ K 6 (text ++ out))
-    (λ out a. cut_memory read [] ⊥ K (text ++ out) a) (c.in-Err.ensures.part read text s)
+    (λ out a. cut_memory read [] ⊥ K c.each_text_is_prepared.ensures.some (text ++ out) a) (c.in-Err.ensures.part read text s)

@@ -59,7 +59,7 @@ returns-in-Err-Sink-clause-wrote g c tells =
     let left = g.S.Source.left c.read_all.new.source in
     let F = Rose (g.S.Source.faults c.args.source.now) (g.S.Source.faults c.read_all.new.source) in
     let K = Holds g.D.Disk.told g.D.Disk.means c.read_all.new.disks.items in
-    map_took g.K.Sink.told (g.K.Sink.taken c.args.sink.now) (g.K.Sink.taken c.read_all.new.sink) (λ out. BrokenOff (lines_of bytes) K out) (λ out. Wrote bytes left F K 5 out) (λ out a. cut_sink bytes left F K out a)
+    map_took g.K.Sink.told (g.K.Sink.taken c.args.sink.now) (g.K.Sink.taken c.read_all.new.sink) (λ out. BrokenOff (lines_of bytes) K out) (λ out. Wrote bytes left F K 5 out) (λ out a. cut_sink bytes left F K c.each_text_is_prepared.ensures.some out a)
     (c.in-Err-Sink.ensures.part tells [] [] c.new-progress.ensures.after)
 
 pub returns-clause-wrote : goal.returns-clause-wrote
@@ -68,5 +68,5 @@ returns-clause-wrote g c tells =
     let left = g.S.Source.left c.read_all.new.source in
     let F = Rose (g.S.Source.faults c.args.source.now) (g.S.Source.faults c.read_all.new.source) in
     let K = Holds g.D.Disk.told g.D.Disk.means c.read_all.new.disks.items in
-    map_took g.K.Sink.told (g.K.Sink.taken c.args.sink.now) (g.K.Sink.taken c.read_all.new.sink) (λ out. BrokenOff (lines_of bytes) K out) (λ out. Wrote bytes left F K 6 out) (λ out a. cut_memory bytes left F K out a)
+    map_took g.K.Sink.told (g.K.Sink.taken c.args.sink.now) (g.K.Sink.taken c.read_all.new.sink) (λ out. BrokenOff (lines_of bytes) K out) (λ out. Wrote bytes left F K 6 out) (λ out a. cut_memory bytes left F K c.each_text_is_prepared.ensures.some out a)
     (c.in-Err-Memory.ensures.part tells [] [] c.new-progress.ensures.after)

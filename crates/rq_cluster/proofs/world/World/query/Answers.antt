@@ -1,7 +1,8 @@
-use Rattle.std.proofs.Common.{ℕ, List, Some, length, ◌≡◌, ◌+◌, refl, ap, ◌∙◌}
+use Rattle.std.proofs.Common.{subst, sym, ℕ, List, Some, length, ◌≡◌, ◌+◌, refl, ap, ◌∙◌}
 use Rattle.rq_json.specs.Body.{texts_of}
 use Rattle.rq_engine.specs.declared.item.Item.{Item}
 use Rattle.rq_cluster.specs.Node.{Node}
+use Rattle.rq_cluster.specs.Preparing.{AreRead}
 use Rattle.rq_cluster.specs.Rules as rules_of
 use Rattle.rq_cluster.specs.ScriptLine as lines
 use Rattle.rq_cluster.specs.World.{World}
@@ -10,8 +11,8 @@ use Rattle.rq_cluster.proofs.world.World.query.Goals as goal
 
 pub returns-clause-ok : goal.returns-clause-ok
 returns-clause-ok g c =
-    let read = of_some c.in_ok-items.field-0 c.in-Some-2.items _ (λ (list : List Item). (texts : List (List ℕ)) × (texts_of c.args.body.now ≡ Some texts) × (length list ≡ length texts)) c.in-Some-2.is c.in_ok-items.ensures in
+    let read = of_some c.in_ok-items.field-0 c.in-Some-2.items _ (λ (list : List Item). (texts : List (List ℕ)) × (texts_of c.args.body.now ≡ Some texts) × AreRead texts list) c.in-Some-2.is c.in_ok-items.ensures in
     ask_leads c.self.inside.host c.self.inside.asks c.args.self.now.cluster c.in-Some.host (ap (λ (w : World). w.cluster) c.self.view_is) c.in-Some.is
     c.args.id c.args.body.now read.0 (λ (number : ℕ) (items : List Item) (n : Node). rules_of.query n number items) (lines.Query c.args.id c.args.body.now) c.as_slice.result.now c.in_ok-number.number c.query.new.self c.args.text.now.items c.query.new.text.items
-    (λ _ _. refl) refl read.1 (ap length c.as_slice.ensures ∙ read.2) (the_some c.checked_add.result c.in_ok-number.number (c.self.inside.asks + 1) _ c.in_ok-number.ensures.ok_part c.checked_add.ensures)
+    (λ _ _. refl) refl read.1 (subst (AreRead read.0) (sym c.as_slice.ensures) read.2) (the_some c.checked_add.result c.in_ok-number.number (c.self.inside.asks + 1) _ c.in_ok-number.ensures.ok_part c.checked_add.ensures)
     (same_id c.in-Some.host.id c.id.result.now c.args.id c.if-ne.ensures c.id.ensures) c.in_ok-query.ensures.ok
