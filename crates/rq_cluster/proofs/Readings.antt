@@ -20,8 +20,8 @@ pub one_more_read : (texts : List (List ℕ)) (items : List Item) (at : ℕ) (te
     → AreRead (take at texts) items → IsPrepared text item → AreRead (take (at + 1) texts) (items ++ item ∷ [])
 one_more_read texts items at text item within is all one =
     subst (λ (l : List (List ℕ)). AreRead l (items ++ item ∷ []))
-        (ap (λ (t : List ℕ). take at texts ++ t ∷ []) is ∙ sym (take_more texts at text within))
-        (read_on (take at texts) items text item all one)
+    (ap (λ (t : List ℕ). take at texts ++ t ∷ []) is ∙ sym (take_more texts at text within))
+    (read_on (take at texts) items text item all one)
 
 pub are_read : (body : List ℕ) (texts : List (List ℕ)) (items : List Item) → texts_of body ≡ Some texts → AreRead texts items → AreRead (listed (texts_of body)) items
 are_read body texts items lists read = subst (λ (o : Option (List (List ℕ))). AreRead (listed o) items) (sym lists) read

@@ -90,7 +90,7 @@ both_texts a b one two =
     let second = and_parts (is_utf8 b) (list_all (λ byte. nat_lt 0 byte) b) two in
     let utf8 : is_utf8 (a ++ b) ≡ true = is_utf8-from_IsUtf8 (a ++ b) (IsUtf8-append a b (IsUtf8-from_is_utf8 a first.0) (IsUtf8-from_is_utf8 b second.0)) in
     let whole : list_all (λ byte. nat_lt 0 byte) (a ++ b) ≡ true =
-        list_all-append (λ byte. nat_lt 0 byte) a b ∙ ap (λ (c : Bool). c && list_all (λ byte. nat_lt 0 byte) b) first.1 ∙ second.1 in
+    list_all-append (λ byte. nat_lt 0 byte) a b ∙ ap (λ (c : Bool). c && list_all (λ byte. nat_lt 0 byte) b) first.1 ∙ second.1 in
     ap (λ (c : Bool). c && list_all (λ byte. nat_lt 0 byte) (a ++ b)) utf8 ∙ whole
   where
     and_parts : (x y : Bool) → (x && y) ≡ true → (x ≡ true) × (y ≡ true)

@@ -1,3 +1,6 @@
+mod Appending
 mod Characters
 mod Plain
+pub mod ReadExpr
+pub mod ReadStmt
 mod Sources

@@ -64,7 +64,6 @@ plain_from_digits (d ∷ ds) h =
 plain_decimal : (n : ℕ) → n < 2 ^ 64 → is_plain (decimal n) ≡ true
 plain_decimal n h = plain_from_digits (decimal n) (digits_decimal own_numerals n h)
 
-
 pub plain_too_long : (n : ℕ) → n < 2 ^ 64 → is_plain (codes "statement too long: " ++ decimal n) ≡ true
 plain_too_long n fits =
     list_all-append (λ byte. nat_lt 0 byte && nat_lt byte 128) (codes "statement too long: ") (decimal n)

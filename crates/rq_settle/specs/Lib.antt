@@ -2,3 +2,5 @@ pub mod Built
 pub mod Prepared
 pub mod Refused
 pub mod Shown
+pub mod Text
+pub mod Written

@@ -1,5 +1,5 @@
 -- One step of the machine, over tokens with their places.
-use Rattle.std.proofs.Common.{ℕ, suc, ◌+◌, ◌≡◌, ◌≤◌, ◌<◌, ◌∷◌, [], List, map, length, drop, Option, Some, None, Result, Ok, Err, Bool, true, false, cond, refl, ap, ◌∙◌, sym, subst, arith}
+use Rattle.std.proofs.Common.{ℕ, ◌+◌, ◌≡◌, ◌≤◌, ◌<◌, ◌∷◌, [], List, map, length, Option, Some, None, Result, Ok, Err, Bool, true, false, cond, refl, ap, ◌∙◌, sym, subst, arith}
 use Rattle.std.specs.Prelude.{nat_le, ◌&&◌, MatchResult}
 use Rattle.std.proofs.lemmas.Bool.Decides.{nat_tests}
 use Rattle.rq_grammar.specs.declared.stmt.Stmt.{Stmt}

@@ -15,7 +15,8 @@ loop-at-preserved-then-len-eq0 c =
       within = omega (arith, less);
       shows = ap (λ (l : List ℕ). l ++ shown_from 0 (drop (c.loop-at.at + 1) c.args.source.now)) c.in_ok-extend_from_slice.ensures.items
           ∙ sym (show_bad c.args.source.now c.loop-at.into.items c.loop-at.at less none some) ∙ c.loop-at.invariant.shows;
-      text = λ was. subst (λ (l : List ℕ). is_text l ≡ true) (sym c.in_ok-extend_from_slice.ensures.items) (both_texts c.loop-at.into.items replacement (c.loop-at.invariant.text was) replacement_text) }
+      text = λ was. subst (λ (l : List ℕ). is_text l ≡ true) (sym c.in_ok-extend_from_slice.ensures.items) (both_texts c.loop-at.into.items replacement (c.loop-at.invariant.text was) replacement_text);
+    }
 
 pub loop-at-preserved : goal.loop-at-preserved
 loop-at-preserved c =
@@ -31,4 +32,5 @@ loop-at-preserved c =
       shows = ap (λ (l : List ℕ). l ++ shown_from 0 (drop (c.loop-at.at + len) c.args.source.now)) said
           ∙ sym (show_good c.args.source.now c.loop-at.into.items c.loop-at.at len some fits is) ∙ c.loop-at.invariant.shows;
       text = λ was. subst (λ (l : List ℕ). is_text l ≡ true) (sym c.in_ok-extend_from_slice-2.ensures.items)
-          (both_texts c.loop-at.into.items (take len c.from_place-rest.result.now) (c.loop-at.invariant.text was) (c.front_len-len.ensures.text some)) }
+          (both_texts c.loop-at.into.items (take len c.from_place-rest.result.now) (c.loop-at.invariant.text was) (c.front_len-len.ensures.text some));
+    }

@@ -14,7 +14,7 @@ returns-clause-stands g c =
     let first = c.in_ok-first.first in
     let opened = c.in-Ok.ensures in
     let has = stored_first told means c.open.new.disks c.in-Ok.opened.0 first
-        (λ t. opened.file t (c.requires.one t) (c.requires.two t)) (λ t. opened.generation t (c.requires.one t) (c.requires.two t))
-        (λ t. opened.end t (c.requires.one t) (c.requires.two t)) (λ t. opened.written t (c.requires.one t) (c.requires.two t)) in
+    (λ t. opened.file t (c.requires.one t) (c.requires.two t)) (λ t. opened.generation t (c.requires.one t) (c.requires.two t))
+    (λ t. opened.end t (c.requires.one t) (c.requires.two t)) (λ t. opened.written t (c.requires.one t) (c.requires.two t)) in
     let is = ap (λ (b : Base). applied_all (started b) (Boot 1 ∷ [])) c.in_ok-first.ensures ∙ ap stored_of (sym c.new_state.ensures) in
     subst (λ (s : Stored). StandsFor told means c.store.new.disks c.store.new.file s) is (c.in_ok-store.ensures.stored (started first) has)
