@@ -221,6 +221,18 @@ fn requests(rt: HostRuntime) -> Result<(), Fail> {
             0,
             b"up n1 boot 1 term 0 last 0\nanswer 1 200 {\"results\":[{\"error\":\"no such table: foo\"}]}\n",
         ),
+        plain(
+            &[b"cluster"],
+            b"cluster n1\nelect n1\nask n1 POST /db/execute [\"DELETE FROM\",\"DROP VIEW v\",\"SELEC 1\",\"SELECT 1.5\"]\napply n1\n",
+            0,
+            b"up n1 boot 1 term 0 last 0\nanswer 1 200 {\"results\":[{\"error\":\"incomplete input\"},{\"error\":\"not in profile: VIEW\"},{\"error\":\"near \\\"SELEC\\\": syntax error\"},{\"error\":\"not in profile: 1.5\"}]}\n",
+        ),
+        plain(
+            &[b"cluster"],
+            b"cluster n1\nask n1 POST /db/query?level=none [\"SELECT 'abc\",\"SELECT \\u00e9\",\"SELECT * FROM foo; SELECT 1\"]\n",
+            0,
+            b"up n1 boot 1 term 0 last 0\nanswer 1 200 {\"results\":[{\"error\":\"near \\\"'abc\\\": syntax error\"},{\"error\":\"near \\\"\xc3\xa9\\\": syntax error\"},{\"error\":\"near \\\"SELECT\\\": syntax error\"}]}\n",
+        ),
     ];
     assert_eq!(rt; first_wrong_case(rt.alloc(), &cases)?, None);
     Ok(())
