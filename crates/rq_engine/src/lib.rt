@@ -1,18 +1,14 @@
-//! Statements and what they mean: their reading and canonical text, the commands of the log, and the tables of a replica.
+//! Statements and what they mean: their canonical text, the commands of the log, and the tables of a replica.
 //!
 //! docs/SQL.md, "Statements that run today", has the rules.
 #![tactic(auto)]
 
 mod command;
 mod creating;
-#[cfg(test)]
-mod engine_tests;
 mod inserting;
 mod item;
 mod messages;
-mod preparing;
 mod printing;
-mod reading;
 mod refusal;
 mod say;
 mod sizes;
@@ -20,11 +16,9 @@ mod statement;
 mod table;
 mod table_key;
 mod tables;
-mod tokens;
 
 pub use command::{Res, encode_execute};
 pub use item::Item;
-pub use preparing::prepare;
 pub use printing::print;
 pub use say::{Answer, Say};
 pub use statement::{Column, ColumnKind, Statement};

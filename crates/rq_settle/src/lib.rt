@@ -17,4 +17,6 @@ pub use preparing::{each_text_is_prepared, prepare};
 pub use statements::print;
 
 #[cfg(test)]
+mod prepared_tests;
+#[cfg(test)]
 mod tests;

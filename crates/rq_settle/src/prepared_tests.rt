@@ -1,9 +1,6 @@
 //! Statements read, printed, spelled and run.
-use crate::command::{Res, encode_execute};
-use crate::item::Item;
 use crate::preparing::prepare;
-use crate::printing::print;
-use crate::tables::Tables;
+use rq_engine::{Item, Res, Tables, encode_execute, print};
 use rq_values::{NoMemory, Seq, Text, Value};
 use std::alloc::Global;
 use std::test::Fail;
@@ -46,25 +43,31 @@ fn texts_and_their_canonical_text(rt: HostRuntime) -> Result<(), Fail> {
         ("SELECT * FROM foo;", "SELECT * FROM \"foo\""),
         ("select*from\"select\"", "SELECT * FROM \"select\""),
         ("SELECT * FROM index", "SELECT * FROM \"index\""),
-        ("SELECT * FROM select", NOT_BUILT),
+        ("SELECT * FROM select", "near \"select\": syntax error"),
         ("SELECT id FROM foo", NOT_BUILT),
         ("SELECT * FROM foo WHERE id = 1", NOT_BUILT),
-        ("SELECT * FROM foo /* a */ b", NOT_BUILT),
-        ("SELECT * FROM \"foo", NOT_BUILT),
+        ("SELECT * FROM foo /* a */ b", "near \"b\": syntax error"),
+        ("SELECT * FROM \"foo", "near \"\"foo\": syntax error"),
         ("DROP TABLE foo", NOT_BUILT),
-        ("", NOT_BUILT),
-        (";", NOT_BUILT),
-        ("CREATE TABLE t ()", NOT_BUILT),
+        ("", "incomplete input"),
+        (";", "near \";\": syntax error"),
+        ("CREATE TABLE t ()", "near \")\": syntax error"),
         ("CREATE TABLE t (a INTEGER NOT NULL)", NOT_BUILT),
         ("CREATE TABLE t (a TEXT PRIMARY KEY)", NOT_BUILT),
         ("CREATE TABLE t (a BLOB)", NOT_BUILT),
         ("CREATE TABLE IF NOT EXISTS t (a TEXT)", NOT_BUILT),
         ("INSERT INTO t(a) VALUES (NULL)", NOT_BUILT),
         ("INSERT INTO t(a) VALUES (X'00')", NOT_BUILT),
-        ("INSERT INTO t(a) VALUES (9223372036854775808)", NOT_BUILT),
-        ("INSERT INTO t(a) VALUES (-9223372036854775809)", NOT_BUILT),
+        (
+            "INSERT INTO t(a) VALUES (9223372036854775808)",
+            "not in profile: 9223372036854775808",
+        ),
+        (
+            "INSERT INTO t(a) VALUES (-9223372036854775809)",
+            "not in profile: 9223372036854775809",
+        ),
         ("INSERT INTO t(a) VALUES (- -5)", NOT_BUILT),
-        ("INSERT INTO t(a) VALUES (1.5)", NOT_BUILT),
+        ("INSERT INTO t(a) VALUES (1.5)", "not in profile: 1.5"),
         ("INSERT INTO t(a) VALUES (1), (2)", NOT_BUILT),
         ("INSERT INTO t VALUES (1)", NOT_BUILT),
     ];
