@@ -1,0 +1,13 @@
+//! The command of a log entry, read from its bytes, for a node that starts again: docs/FORMATS.md, "Bytes".
+#![tactic(auto)]
+
+mod decoding;
+mod error;
+mod laws;
+
+pub use decoding::{TEXT_LIMIT, decode_execute};
+pub use error::CommandError;
+pub use laws::each_command_has_one_answer;
+
+#[cfg(test)]
+mod tests;

@@ -1,0 +1,66 @@
+use super::*;
+use rq_engine::encode_execute;
+use std::alloc::Global;
+use std::test::Fail;
+
+/// The command that runs one statement.
+const COMMAND: &[u8] =
+    b"\x01\0\x01\0\0\0\0\x2d\0\0\0CREATE TABLE \"foo\" (\"id\" INTEGER PRIMARY KEY)";
+
+/// A statement and an error.
+const TWO: &[u8] = b"\x01\0\x02\0\0\0\0\x13\0\0\0SELECT * FROM \"foo\"\x01\x09\0\0\0not built";
+
+/// The bytes behind the command.
+const TRAILING: &[u8] = b"\x01\0\x01\0\0\0\x01\x01\0\0\0x\0";
+
+fn refusal(alloc: Global, bytes: &[u8]) -> Option<CommandError> {
+    decode_execute(alloc, bytes).err()
+}
+
+#[test]
+fn commands_and_refusals(rt: HostRuntime) -> Result<(), Fail> {
+    let alloc = rt.alloc();
+    assert_eq!(rt; COMMAND.len(), 56);
+    for (bytes, count) in [(COMMAND, 1), (TWO, 2), (b"\x01\0\0\0\0\0".as_slice(), 0)] {
+        let items = decode_execute(alloc, bytes).ok().ok_or("refused")?;
+        assert_eq!(rt; items.len(), count);
+        let mut spelled = Vec::new(alloc);
+        encode_execute(items.as_slice(), &mut spelled)?;
+        assert_eq!(rt; spelled.as_slice(), bytes);
+    }
+    for len in 0..56 {
+        assert_eq!(rt;
+            refusal(alloc, &COMMAND[..len]),
+            Some(CommandError::Short(len))
+        );
+    }
+    for (bytes, error) in [
+        (b"\x02\0\0\0\0\0".as_slice(), CommandError::Kind(0, 2)),
+        (b"\x01\x01\0\0\0\0".as_slice(), CommandError::Kind(1, 1)),
+        (b"\x01\0\x01\0\0\0\x02".as_slice(), CommandError::Kind(6, 2)),
+        (
+            b"\x01\0\x01\0\0\0\0\x01\0\x80\0".as_slice(),
+            CommandError::Long(7, 8_388_609),
+        ),
+        (
+            b"\x01\0\x01\0\0\0\0\x01\0\0\0\xff".as_slice(),
+            CommandError::NotText(7),
+        ),
+        (
+            b"\x01\0\x01\0\0\0\x01\x01\0\0\0\0".as_slice(),
+            CommandError::NotText(7),
+        ),
+        (
+            b"\x01\0\x01\0\0\0\0\x11\0\0\0SELECT * FROM foo\0".as_slice(),
+            CommandError::Text(7),
+        ),
+        (
+            b"\x01\0\x01\0\0\0\0\x10\0\0\0DROP TABLE \"foo\"".as_slice(),
+            CommandError::Text(7),
+        ),
+        (TRAILING, CommandError::Trailing(12)),
+    ] {
+        assert_eq!(rt; refusal(alloc, bytes), Some(error));
+    }
+    Ok(())
+}
