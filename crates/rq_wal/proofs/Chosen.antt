@@ -1,12 +1,12 @@
 -- The generation of an open file.
-use Rattle.std.proofs.Common.{true, false, ◌≡◌, ◌≢◌, ℕ, suc, Fits, w8, ◌≤◌, ◌<◌, ◌==◌, Bool, List, [], ◌∷◌, length, take, drop, get_or, Option, Some, None, nat_lt, nat_le, nat_eq, cond, refl, sym, ap, ◌∙◌, arith, length-take}
+use Rattle.std.proofs.Common.{true, false, ◌≡◌, ◌≢◌, ℕ, suc, Fits, w8, ◌≤◌, ◌==◌, Bool, List, [], ◌∷◌, length, take, drop, get_or, Option, Some, None, nat_lt, nat_le, nat_eq, cond, refl, sym, ap, ◌∙◌, arith, length-take}
 use Rattle.std.proofs.lemmas.Bool.Decides.{nat_tests}
 use Rattle.std.proofs.lemmas.List.{take-take}
 use Rattle.std.specs.Int.{w64, from_le_bytes}
 use Rattle.rq_values.specs.Exact.{AreBytes}
 use Rattle.rq_wal.specs.Replace.{in_header, generation_of, is_open}
 use Rattle.rq_wal.proofs.FilesRead.{number_at}
-use Rattle.rq_wal.proofs.Headers.{short, shut_header}
+use Rattle.rq_wal.proofs.Headers.{shut_header}
 use Rattle.rq_wal.proofs.Opened.{and_true, first_byte, not_short}
 
 number_of_front : (file : List ℕ) → 23 ≤ length file → take 8 (drop 7 (take 23 file)) ≡ take 8 (drop 7 file)

@@ -1,5 +1,5 @@
 -- A frame is read exactly where the spelling of an allowed frame stands.
-use Rattle.std.proofs.Common.{Bool, true, false, ◌≡◌, ℕ, zero, suc, ◌+◌, ◌≤◌, ◌<◌, ◌^◌, ◌==◌, ◌&&◌, List, [], ◌∷◌, ◌++◌, length, Option, Some, None, Result, Ok, Err, nat_lt, nat_le, cond, refl, sym, ap, subst, ◌∙◌, arith, append_assoc, length-append}
+use Rattle.std.proofs.Common.{true, ◌≡◌, ℕ, zero, suc, ◌+◌, ◌≤◌, ◌<◌, ◌^◌, ◌==◌, List, [], ◌∷◌, ◌++◌, length, Option, None, Result, Ok, Err, cond, refl, sym, ap, subst, ◌∙◌, arith, append_assoc, length-append}
 use Rattle.std.proofs.lemmas.Bool.Decides.{nat_tests}
 use Rattle.std.specs.List.{flat_map}
 use Rattle.rq_values.specs.declared.error.Wrong.{Wrong}
@@ -7,8 +7,8 @@ use Rattle.rq_values.specs.declared.error.Wrong.TheVariants.{Kind, Rule}
 use Rattle.rq_values.specs.Text.{is_id}
 use Rattle.rq_values.specs.Spelling.{u32_bytes, u64_bytes, sized, option_bytes, list_bytes}
 use Rattle.rq_values.specs.Reading.{◌>>=◌, made, checked, u8_at, u32_at, u64_at, id_at, option_at, many_at, sized_at}
-use Rattle.rq_values.specs.Local.{bind_ok, guard_ok, ok_is, eq_true, is_eq}
-use Rattle.rq_values.specs.Exact.{AreBytes, IsExact, Stood, IsNamed, IsNoneOr, AreProper, exact_bind, exact_made, exact_checked, exact_same, exact_u8, exact_u32, exact_u64, exact_id, exact_option, exact_many}
+use Rattle.rq_values.specs.Local.{bind_ok, guard_ok, eq_true, is_eq}
+use Rattle.rq_values.specs.Exact.{IsExact, IsNamed, IsNoneOr, AreProper, exact_bind, exact_made, exact_checked, exact_same, exact_u8, exact_u32, exact_u64, exact_id, exact_option, exact_many}
 use Rattle.rq_wire.specs.declared.entry.Entry.{Entry}
 use Rattle.rq_wire.specs.Spelling.{entry_bytes}
 use Rattle.rq_wire.specs.Reading.{entry_at}

@@ -1,9 +1,8 @@
 -- A log is read exactly where it was written.
-use Rattle.std.proofs.Common.{Bool, true, ◌≡◌, ◌≢◌, ◌⊎◌, inl, inr, ⊎_elim, ℕ, zero, suc, ◌+◌, ◌≤◌, ◌<◌, ◌^◌, List, [], ◌∷◌, ◌++◌, length, Result, Ok, Err, refl, sym, ap, subst, ◌∙◌, arith, append_assoc, length-append}
+use Rattle.std.proofs.Common.{◌≡◌, ◌≢◌, inl, inr, ℕ, zero, suc, ◌+◌, ◌≤◌, ◌<◌, ◌^◌, List, [], ◌∷◌, ◌++◌, length, Ok, refl, sym, ap, subst, ◌∙◌, arith, append_assoc, length-append}
 use Rattle.std.proofs.lemmas.Bool.{cases_eq}
 use Rattle.std.proofs.lemmas.Bool.Decides.{nat_tests}
 use Rattle.std.specs.List.{flat_map}
-use Rattle.rq_values.specs.declared.error.Wrong.{Wrong}
 use Rattle.rq_values.specs.Spelling.{u64_bytes}
 use Rattle.rq_values.specs.Reading.{◌>>=◌, u64_at}
 use Rattle.rq_values.specs.Local.{bind_ok, ok_is}

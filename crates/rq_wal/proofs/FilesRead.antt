@@ -1,5 +1,5 @@
 -- An open file by its header and its log.
-use Rattle.std.proofs.Common.{Bool, true, false, ◌≡◌, ◌≢◌, ℕ, ◌+◌, ◌-◌, ◌≤◌, ◌<◌, ◌^◌, ◌==◌, ◌&&◌, List, [], ◌∷◌, ◌++◌, length, take, drop, get_or, Option, Some, None, Result, Ok, Err, nat_lt, nat_le, nat_eq, leb-true, cond, refl, sym, ap, subst, ◌∙◌, arith, append_assoc, length-append, take-append-drop}
+use Rattle.std.proofs.Common.{Bool, true, false, ◌≡◌, ℕ, ◌+◌, ◌-◌, ◌≤◌, ◌<◌, ◌^◌, ◌==◌, ◌&&◌, List, [], ◌∷◌, ◌++◌, length, take, drop, Option, Some, None, Result, Ok, Err, nat_le, leb-true, cond, refl, sym, ap, subst, ◌∙◌, arith, append_assoc, length-append}
 use Rattle.std.proofs.lemmas.Bool.Decides.{nat_tests}
 use Rattle.std.proofs.lemmas.List.{take_at, drop_at}
 use Rattle.std.specs.Int.{w64, from_le_bytes}
@@ -16,13 +16,11 @@ use Rattle.rq_wal.specs.declared.error.OpenError.{OpenError}
 use Rattle.rq_wal.specs.declared.frame.Frame.{Frame}
 use Rattle.rq_wal.specs.declared.file.WalFile.{WalFile}
 use Rattle.rq_wal.specs.Current.{IsRead}
-use Rattle.rq_wal.specs.Gate.{EndsIn}
 use Rattle.rq_wal.specs.Log.{IsLog, HasLog, ReadsWritten, ReadsNothingElse}
 use Rattle.rq_wal.specs.Reading.{is_magic, is_small, header_fault, leaves_at, unless_, stored_of, file_gives, log_at}
 use Rattle.rq_wal.specs.Replace.{generation_of, is_open}
-use Rattle.rq_wal.specs.Rules.{AreAllowed}
 use Rattle.rq_wal.specs.Spelling.{base_bytes, body_bytes, front_bytes, gated}
-use Rattle.rq_wal.specs.Stored.{started, stored_after}
+use Rattle.rq_wal.specs.Stored.{started}
 use Rattle.rq_wal.specs.WalFile.{wal_end, wal_generation}
 use Rattle.rq_wal.proofs.ExactLog.{Frames, sized_base, log_again, log_stood}
 use Rattle.rq_wal.proofs.Opened.{reads_number, long_number, new_generation}

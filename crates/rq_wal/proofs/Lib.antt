@@ -9,6 +9,7 @@ mod ExactLog
 mod FilesRead
 mod FramesRead
 mod Headers
+mod ImagesNow
 mod LocalFrames
 mod LogMore
 mod Moments

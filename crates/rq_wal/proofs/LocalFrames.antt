@@ -1,7 +1,7 @@
 -- A frame is read from the front of the bytes.
-use Rattle.std.proofs.Common.{ℕ, ◌≡◌, ◌≤◌, ◌==◌, List, ◌++◌, length, Ok, cond, ap, arith, length-append}
+use Rattle.std.proofs.Common.{ℕ, ◌≡◌, ◌≤◌, ◌==◌, List, length, Ok, cond, ap, arith, length-append}
 use Rattle.rq_values.specs.declared.error.Wrong.TheVariants.{Kind}
-use Rattle.rq_values.specs.Reading.{◌>>=◌, made, checked, u8_at, u32_at, u64_at, id_at, option_at, many_at, sized_at}
+use Rattle.rq_values.specs.Reading.{made, checked, u8_at, u32_at, u64_at, id_at, option_at, many_at, sized_at}
 use Rattle.rq_values.specs.Local.{IsLocal, local_bind, local_made, local_checked, local_choice, local_u8, local_u32, local_u64, local_id, local_option, local_many, local_sized}
 use Rattle.rq_wire.specs.Reading.{entry_at}
 use Rattle.rq_wire.specs.Local.{local_entry}

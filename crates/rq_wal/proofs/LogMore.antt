@@ -1,5 +1,5 @@
 -- A log with more frames.
-use Rattle.std.proofs.Common.{◌≡◌, ◌≤◌, ℕ, zero, suc, List, [], ◌∷◌, ◌++◌, length, take, refl, sym, ap, subst, ◌∙◌, append_assoc, Ok, Result, Err, IfOk, arith}
+use Rattle.std.proofs.Common.{◌≡◌, ℕ, zero, suc, List, [], ◌∷◌, ◌++◌, take, refl, sym, ap, subst, ◌∙◌, append_assoc}
 use Rattle.std.proofs.lemmas.Grind.{flat_map-append}
 use Rattle.std.specs.List.{flat_map}
 use Rattle.rq_outside.specs.declared.pair.DiskPair.{DiskPair}
@@ -12,12 +12,11 @@ use Rattle.rq_wal.specs.declared.base.Stored.{Stored}
 use Rattle.rq_wal.specs.declared.file.WalFile.{WalFile}
 use Rattle.rq_wal.specs.declared.frame.Frame.{Frame}
 use Rattle.rq_wal.specs.Current.{IsBehind, IsCurrent, EachSinceGivesSome, file_at}
-use Rattle.rq_wal.specs.Gate.{EndsIn, IsAtRest, HasSomeOf}
+use Rattle.rq_wal.specs.Gate.{IsAtRest, HasSomeOf}
 use Rattle.rq_wal.specs.Log.{IsLog}
-use Rattle.rq_wal.specs.Reading.{pair_gives}
 use Rattle.rq_wal.specs.Rules.{AreAllowed}
 use Rattle.rq_wal.specs.Spelling.{body_bytes, front_bytes, gated}
-use Rattle.rq_wal.specs.Stored.{started, applied, applied_all, stored_after}
+use Rattle.rq_wal.specs.Stored.{started, applied, applied_all}
 use Rattle.rq_wal.specs.WalFile.{wal_file, wal_end, wal_generation}
 use Rattle.rq_wal.proofs.AtRest.{stays_at_rest}
 use Rattle.rq_wal.proofs.Standing.{pair_with}

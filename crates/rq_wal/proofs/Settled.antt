@@ -1,5 +1,5 @@
 -- A pair that was opened: by the file that was found, or by a new one.
-use Rattle.std.proofs.Common.{Bool, false, IsTrue, IfErr, IsErrOf, ◌≡◌, ◌⊎◌, inl, inr, ℕ, ◌+◌, ◌<◌, ◌^◌, List, [], ◌∷◌, ◌++◌, length, take, Option, Some, None, Result, Ok, Err, IfOk, IfSome, OnSome, OnOk, refl, sym, ap, subst, ◌∙◌, arith}
+use Rattle.std.proofs.Common.{Bool, false, IsTrue, IfErr, IsErrOf, ◌≡◌, ◌⊎◌, inl, inr, ℕ, ◌<◌, ◌≤◌, ◌^◌, List, [], ◌∷◌, length, take, Option, Some, None, Result, Ok, Err, IfOk, IfSome, OnSome, OnOk, refl, sym, ap, subst, ◌∙◌, arith}
 use Rattle.std.proofs.lemmas.List.{take_at}
 use Rattle.rq_outside.specs.declared.pair.DiskPair.{DiskPair}
 use Rattle.rq_outside.specs.declared.pair.FileNo.{FileNo}
@@ -11,24 +11,21 @@ use Rattle.rq_wal.specs.declared.base.Stored.{Stored}
 use Rattle.rq_wal.specs.declared.error.OpenError.{OpenError}
 use Rattle.rq_wal.specs.declared.error.OpenError.TheVariants as errors
 use Rattle.rq_wal.specs.declared.file.WalFile.{WalFile}
-use Rattle.rq_wal.specs.Current.{file_at, IsBehind, IsFound, IsBegun, IsCurrent, EachImageGives, EachSinceGives}
+use Rattle.rq_wal.specs.Current.{file_at, IsBehind, IsFound, IsBegun, IsCurrent, EachImageGives, EachSince, SomeImageGives}
 use Rattle.rq_wal.specs.Gate.{IsAtRest}
 use Rattle.rq_wal.specs.Log.{IsLog}
-use Rattle.rq_wal.specs.Reading.{by_generations, pair_gives}
+use Rattle.rq_wal.specs.Reading.{pair_gives}
 use Rattle.rq_wal.specs.Replace.{generation_of, is_open}
 use Rattle.rq_wal.specs.Spelling.{base_bytes, front_bytes, file_bytes}
-use Rattle.rq_wal.specs.Stored.{started, stored_after}
+use Rattle.rq_wal.specs.Stored.{stored_after}
 use Rattle.rq_wal.specs.WalFile.{wal_file, wal_end, wal_generation}
+use Rattle.rq_wal.proofs.ImagesNow.{each_given}
 use Rattle.rq_wal.proofs.Moments.{then}
-use Rattle.rq_wal.proofs.Standing.{current_of, images_give, always_kept, always_begun, new_log, ends_generation}
+use Rattle.rq_wal.proofs.Standing.{current_of, closed_gives, images_give, always_kept, always_begun, new_log, ends_generation}
 use Rattle.rq_wal.proofs.Opened.{closed_file}
 
 abbrev Opened : Type 0
 Opened = Result (WalFile × Stored) OpenError
-
-closed_gives : (first : Base) (one two : List ℕ) → generation_of one ≡ None → generation_of two ≡ None → pair_gives first one two ≡ Ok (started first)
-unfolding pair_gives
-closed_gives first one two none none' = λ i. by_generations first (none i) (none' i) one two
 
 pub gives_in : (first : Base) (one two : List ℕ) (found : Option (WalFile × Stored)) (r : Opened) → IsFound first one two found → IfSome found (λ o. r ≡ Ok o) → (found ≡ None → IfOk r (λ o. o.1 ≡ stored_after first [])) → IfOk r (λ o. pair_gives first one two ≡ Ok o.1)
 gives_in first one two (Some opened) r is same new = subst (λ (x : Opened). IfOk x (λ o. pair_gives first one two ≡ Ok o.1)) (sym same) is.gives
@@ -85,13 +82,18 @@ module _ {D F : Type 0} (means : D → DiskMeaning) (first : Base) where
   pub moments_in : (old mid new : DiskPair D F) (found : Option (WalFile × Stored)) → IsFound first (means old.one).content (means old.two).content found
       → LeavesOnly (means old.one) (means mid.one) (means old.one).images → LeavesOnly (means old.two) (means mid.two) (means old.two).images → OnSome found (new ≡ mid) → new.two ≡ mid.two
       → (found ≡ None → LeavesOnly (means mid.one) (means new.one) (IsBegun first)) → (means old.one).images (means old.one).content → (means old.two).images (means old.two).content
-      → (stored : Stored) → EachImageGives means first old stored → EachSinceGives means first old new stored
-  moments_in old mid new (Some opened) is m1 m2 kept two begun now1 now2 stored all =
-      subst (λ (pair : DiskPair D F). EachSinceGives means first old pair stored) (sym kept) (always_kept means first stored old all mid m1 m2)
-  moments_in old mid new None is m1 m2 kept two begun now1 now2 stored all =
-      always_begun means first stored old all new now1 now2 is.0 is.1
+      → EachSince means first old new (SomeImageGives means first old)
+  moments_in old mid new (Some opened) is m1 m2 kept two begun now1 now2 =
+      subst (λ (pair : DiskPair D F). EachSince means first old pair (SomeImageGives means first old)) (sym kept) (always_kept means first (SomeImageGives means first old) old (each_given means first old) mid m1 m2)
+  moments_in old mid new None is m1 m2 kept two begun now1 now2 =
+      always_begun means first (SomeImageGives means first old) old (each_given means first old) new now1 now2 is.0 is.1
       (then (means old.one) (means mid.one) (means new.one) (means old.one).images (IsBegun first) (λ c. (means old.one).images c ⊎ IsBegun first c) m1 (begun refl) (λ c p. inl p) (λ c p. inr p))
       (subst (λ (d : D). LeavesOnly (means old.two) (means d) (means old.two).images) (sym two) m2)
+
+  -- time went on
+  pub later_in : (old mid new : DiskPair D F) (found : Option (WalFile × Stored)) → (means old.one).moment ≤ (means mid.one).moment → OnSome found (new ≡ mid) → (found ≡ None → LeavesOnly (means mid.one) (means new.one) (IsBegun first)) → (means old.one).moment ≤ (means new.one).moment
+  later_in old mid new (Some opened) le kept begun = subst (λ (pair : DiskPair D F). (means old.one).moment ≤ (means pair.one).moment) (sym kept) le
+  later_in old mid new None le kept begun = let left = begun refl in omega (arith, le, left.later)
 
 -- ---- the answers of opening
 
@@ -120,3 +122,15 @@ pub refused_so : (r : Opened) (X : OpenError → Type 0) → IfErr r (λ e. (e �
 refused_so (Ok o) X refused = tt
 refused_so (Err e) X (inl disk) = inl disk
 refused_so (Err e) X (inr none) = inr (inl none)
+
+-- what the contents stand for is what some image gives
+module _ {D F : Type 0} (means : D → DiskMeaning) (first : Base) (pair : DiskPair D F) (now1 : (means pair.one).images (means pair.one).content) (now2 : (means pair.two).images (means pair.two).content) where
+  pub opened_of : (r : Opened) → IfOk r (λ o. pair_gives first (means pair.one).content (means pair.two).content ≡ Ok o.1) → IfOk r (λ o. SomeImageGives means first pair (Ok o.1))
+  opened_of (Ok o) gives = ((means pair.one).content, (means pair.two).content, now1, now2, sym gives)
+  opened_of (Err e) gives = tt
+
+  pub refused_of : (r : Opened) → IfErr r (λ e. (e ≡ errors.Disk) ⊎ (e ≡ errors.NoMemory) ⊎ (pair_gives first (means pair.one).content (means pair.two).content ≡ Err e)) → IfErr r (λ e. (e ≡ errors.Disk) ⊎ (e ≡ errors.NoMemory) ⊎ SomeImageGives means first pair (Err e))
+  refused_of (Ok o) refused = tt
+  refused_of (Err e) (inl disk) = inl disk
+  refused_of (Err e) (inr (inl none)) = inr (inl none)
+  refused_of (Err e) (inr (inr gives)) = inr (inr ((means pair.one).content, (means pair.two).content, now1, now2, sym gives))

@@ -1,8 +1,7 @@
 -- What a pair stands for.
-use Rattle.std.proofs.Common.{Bool, true, false, ◌≡◌, ◌≢◌, ◌⊎◌, inl, inr, ⊎_elim, ℕ, ◌+◌, ◌-◌, ◌≤◌, ◌<◌, ◌^◌, List, [], ◌∷◌, ◌++◌, length, take, Option, Some, None, Result, Ok, Err, nat_lt, cond, refl, sym, ap, subst, ◌∙◌, arith, append_assoc, length-append}
+use Rattle.std.proofs.Common.{Bool, true, false, ◌≡◌, ◌⊎◌, inl, inr, ℕ, ◌≤◌, ◌<◌, ◌^◌, List, [], ◌∷◌, ◌++◌, length, take, drop, Option, Some, None, Result, Ok, nat_lt, cond, refl, sym, ap, subst, ◌∙◌, arith, length-append}
 use Rattle.std.proofs.lemmas.Bool.Decides.{nat_tests}
 use Rattle.std.proofs.lemmas.List.{append-nil}
-use Rattle.std.specs.List.{flat_map}
 use Rattle.rq_outside.specs.declared.pair.DiskPair.{DiskPair}
 use Rattle.rq_outside.specs.declared.pair.FileNo.{FileNo}
 use Rattle.rq_outside.specs.declared.pair.FileNo.TheVariants.{One, Two}
@@ -13,18 +12,16 @@ use Rattle.rq_wal.specs.declared.base.Base.{Base}
 use Rattle.rq_wal.specs.declared.base.Stored.{Stored}
 use Rattle.rq_wal.specs.declared.error.OpenError.{OpenError}
 use Rattle.rq_wal.specs.declared.file.WalFile.{WalFile}
-use Rattle.rq_wal.specs.declared.frame.Frame.{Frame}
-use Rattle.rq_wal.specs.Current.{IsBehind, IsRead, IsOpened, IsBegun, IsCurrent, EachImageGives, EachSinceGives, file_at, number_of}
-use Rattle.rq_wal.specs.Gate.{EndsIn, IsAtRest}
+use Rattle.rq_wal.specs.Current.{IsBehind, IsOpened, IsBegun, IsCurrent, EachImage, EachImageGives, EachSince, file_at}
+use Rattle.rq_wal.specs.Gate.{EndsIn}
 use Rattle.rq_wal.specs.Log.{IsLog}
-use Rattle.rq_wal.specs.Reading.{header_fault, unless_, then_, file_gives, by_generations, pair_gives}
-use Rattle.rq_wal.specs.Replace.{generation_of, is_open, IsBelow, IsOldOrNew}
-use Rattle.rq_wal.specs.Spelling.{base_bytes, body_bytes, front_bytes, file_bytes, gated}
-use Rattle.rq_wal.specs.Stored.{started, stored_after}
+use Rattle.rq_wal.specs.Reading.{header_fault, unless_, then_, stored_of, log_at, file_gives, by_generations, pair_gives}
+use Rattle.rq_wal.specs.Replace.{generation_of, IsBelow, IsOldOrNew}
+use Rattle.rq_wal.specs.Spelling.{base_bytes, body_bytes, front_bytes, file_bytes}
+use Rattle.rq_wal.specs.Stored.{started}
 use Rattle.rq_wal.specs.WalFile.{wal_file, wal_end, wal_generation}
 use Rattle.rq_wal.proofs.FilesRead.{written, front_generation, header_right_of}
 use Rattle.rq_wal.proofs.Moments.{OnlyNow, then}
-use Rattle.rq_wal.proofs.Opened.{closed_file}
 use Rattle.rq_wal.proofs.Quiet.{quiet}
 
 -- ---- the first writing of file one
@@ -141,14 +138,11 @@ both_closed first a b two none none' = without (generation_of two)
     without None = (λ i. by_generations first (none i) None a two) ∙ sym (λ i. by_generations first (none' i) None b two)
     without (Some h) = (λ i. by_generations first (none i) (Some h) a two) ∙ sym (λ i. by_generations first (none' i) (Some h) b two)
 
-ok_same : (a b : Stored) (r : Result Stored OpenError) → r ≡ Ok a → r ≡ Ok b → a ≡ b
-ok_same a b r p q = cc
-
-none_gives : (first : Base) (one two : List ℕ) (stored : Stored) → generation_of one ≡ None → generation_of two ≡ None → pair_gives first one two ≡ Ok stored → started first ≡ stored
+pub closed_gives : (first : Base) (one two : List ℕ) → generation_of one ≡ None → generation_of two ≡ None → pair_gives first one two ≡ Ok (started first)
 unfolding pair_gives
-none_gives first one two stored none none' gives = ok_same (started first) stored (by_generations first (generation_of one) (generation_of two) one two) (λ i. by_generations first (none i) (none' i) one two) gives
+closed_gives first one two none none' = λ i. by_generations first (none i) (none' i) one two
 
--- the new file one, beside a file two that stood for the same
+-- the new file one
 module _ (first : Base) (fits : length (base_bytes first) < 2 ^ 64) where
   pub new_log : IsLog first 1 (started first) (front_bytes 1 first [])
   new_log = record { frames = []; allowed = tt; folds = refl; small = omega arith; fits = fits; is = refl }
@@ -156,55 +150,55 @@ module _ (first : Base) (fits : length (base_bytes first) < 2 ^ 64) where
   new_ends : EndsIn (front_bytes 1 first []) (file_bytes 1 first [])
   new_ends = record { gate = 0; rest = []; closed = omega arith; split = refl }
 
-  unless_right : (fault : Option OpenError) (r : Result Stored OpenError) (stored : Stored) → unless_ fault r ≡ Ok stored → fault ≡ None
-  unless_right None r stored h = refl
-  unless_right (Some fault) r stored h = absurd (cc)
+  -- beside a file two, it gives what stood there before, or the first base
+  module _ (P : Result Stored OpenError → Type 0) (here : P (Ok (started first))) where
+    right_or : (fault : Option OpenError) (r : Result Stored OpenError) → P (unless_ fault r) → P (then_ (Ok (started first)) fault)
+    right_or None r p = here
+    right_or (Some fault) r p = p
 
-  beside : (one two : List ℕ) → generation_of one ≡ None → pair_gives first one two ≡ Ok (started first) → pair_gives first (file_bytes 1 first []) two ≡ Ok (started first)
-  unfolding pair_gives
-  beside one two none gives = with_two (generation_of two) refl
-    where
-      current : generation_of (file_bytes 1 first []) ≡ Some 1
-      current = ends_generation first 1 (started first) (front_bytes 1 first []) (file_bytes 1 first []) new_log new_ends
+    beside : (one two : List ℕ) → generation_of one ≡ None → P (pair_gives first one two) → P (pair_gives first (file_bytes 1 first []) two)
+    unfolding pair_gives
+    beside one two none gives = with_two (generation_of two) refl
+      where
+        current : generation_of (file_bytes 1 first []) ≡ Some 1
+        current = ends_generation first 1 (started first) (front_bytes 1 first []) (file_bytes 1 first []) new_log new_ends
 
-      right : header_fault 1 (file_bytes 1 first []) ≡ None
-      right = ends_right first 1 (started first) (front_bytes 1 first []) (file_bytes 1 first []) new_log new_ends 1
+        right : header_fault 1 (file_bytes 1 first []) ≡ None
+        right = ends_right first 1 (started first) (front_bytes 1 first []) (file_bytes 1 first []) new_log new_ends 1
 
-      gives_one : file_gives first 1 (file_bytes 1 first []) ≡ Ok (started first)
-      gives_one = ends_gives first 1 (started first) (front_bytes 1 first []) (file_bytes 1 first []) new_log new_ends 1
+        gives_one : file_gives first 1 (file_bytes 1 first []) ≡ Ok (started first)
+        gives_one = ends_gives first 1 (started first) (front_bytes 1 first []) (file_bytes 1 first []) new_log new_ends 1
 
-      either : (b : Bool) → file_gives first 2 two ≡ Ok (started first) → cond b (unless_ (header_fault 1 (file_bytes 1 first [])) (file_gives first 2 two)) (then_ (file_gives first 1 (file_bytes 1 first [])) (header_fault 2 two)) ≡ Ok (started first)
-      either true two_gives = λ i. unless_ (right i) (two_gives i)
-      either false two_gives = λ i. then_ (gives_one i) (unless_right (header_fault 2 two) _ (started first) two_gives i)
+        either : (b : Bool) → P (file_gives first 2 two) → P (cond b (unless_ (header_fault 1 (file_bytes 1 first [])) (file_gives first 2 two)) (then_ (file_gives first 1 (file_bytes 1 first [])) (header_fault 2 two)))
+        either true p = subst (λ (fault : Option OpenError). P (unless_ fault (file_gives first 2 two))) (sym right) p
+        either false p = subst (λ (r : Result Stored OpenError). P (then_ r (header_fault 2 two))) (sym gives_one) (right_or (header_fault 2 two) (stored_of 2 two (log_at first (drop 15 two))) p)
 
-      with_two : (o : Option ℕ) → generation_of two ≡ o → pair_gives first (file_bytes 1 first []) two ≡ Ok (started first)
-      with_two None is = (λ i. by_generations first (current i) (is i) (file_bytes 1 first []) two) ∙ gives_one
-      with_two (Some h) is =
-          let two_gives : file_gives first 2 two ≡ Ok (started first) = (λ i. by_generations first (sym none i) (sym is i) one two) ∙ gives in
-          (λ i. by_generations first (current i) (is i) (file_bytes 1 first []) two)
-          ∙ either (nat_lt 1 h) two_gives
+        with_two : (o : Option ℕ) → generation_of two ≡ o → P (pair_gives first (file_bytes 1 first []) two)
+        with_two None is = subst P (sym ((λ i. by_generations first (current i) (is i) (file_bytes 1 first []) two) ∙ gives_one)) here
+        with_two (Some h) is =
+            let two_gives : P (file_gives first 2 two) = subst P (λ i. by_generations first (none i) (is i) one two) gives in
+            subst P (sym (λ i. by_generations first (current i) (is i) (file_bytes 1 first []) two)) (either (nat_lt 1 h) two_gives)
 
-module _ {D F : Type 0} (means : D → DiskMeaning) (first : Base) (stored : Stored) (old : DiskPair D F) (all : EachImageGives means first old stored) where
+module _ {D F : Type 0} (means : D → DiskMeaning) (first : Base) (P : Result Stored OpenError → Type 0) (old : DiskPair D F) (all : EachImage means first old P) where
   -- no image was added
-  pub always_kept : (new : DiskPair D F) → LeavesOnly (means old.one) (means new.one) (means old.one).images → LeavesOnly (means old.two) (means new.two) (means old.two).images → EachSinceGives means first old new stored
+  pub always_kept : (new : DiskPair D F) → LeavesOnly (means old.one) (means new.one) (means old.one).images → LeavesOnly (means old.two) (means new.two) (means old.two).images → EachSince means first old new P
   always_kept new one_only two_only one two i1 i2 = all one two (one_only.each one i1) (two_only.each two i2)
 
   -- file one was written
   pub always_begun : (new : DiskPair D F) → (means old.one).images (means old.one).content → (means old.two).images (means old.two).content → generation_of (means old.one).content ≡ None → generation_of (means old.two).content ≡ None
-      → LeavesOnly (means old.one) (means new.one) (λ c. (means old.one).images c ⊎ IsBegun first c) → LeavesOnly (means old.two) (means new.two) (means old.two).images → EachSinceGives means first old new stored
+      → LeavesOnly (means old.one) (means new.one) (λ c. (means old.one).images c ⊎ IsBegun first c) → LeavesOnly (means old.two) (means new.two) (means old.two).images → EachSince means first old new P
   always_begun new now_one now_two none none' one_only two_only one two i1 i2 = by_case (one_only.each one i1)
     where
       c2 : (means old.two).images two
       c2 = two_only.each two i2
 
-      is : started first ≡ stored
-      is = none_gives first (means old.one).content (means old.two).content stored none none' (all (means old.one).content (means old.two).content now_one now_two)
+      here : P (Ok (started first))
+      here = subst P (closed_gives first (means old.one).content (means old.two).content none none') (all (means old.one).content (means old.two).content now_one now_two)
 
-      beside_old : pair_gives first (means old.one).content two ≡ Ok stored
+      beside_old : P (pair_gives first (means old.one).content two)
       beside_old = all (means old.one).content two now_one c2
 
-      by_case : (means old.one).images one ⊎ IsBegun first one → pair_gives first one two ≡ Ok stored
+      by_case : (means old.one).images one ⊎ IsBegun first one → P (pair_gives first one two)
       by_case (inl before) = all one two before c2
-      by_case (inr (inl closed)) = both_closed first one (means old.one).content two closed none ∙ beside_old
-      by_case (inr (inr new_one)) =
-          ap (λ (l : List ℕ). pair_gives first l two) new_one.0 ∙ beside first new_one.1 (means old.one).content two none (beside_old ∙ ap Ok (sym is)) ∙ ap Ok is
+      by_case (inr (inl closed)) = subst P (both_closed first (means old.one).content one two none closed) beside_old
+      by_case (inr (inr new_one)) = subst (λ (l : List ℕ). P (pair_gives first l two)) (sym new_one.0) (beside first new_one.1 P here (means old.one).content two none beside_old)

@@ -1,5 +1,5 @@
 -- The current file of a pair, and the other one.
-use Rattle.std.specs.Prelude.{◌≡◌, ◌⊎◌, ◌≤◌, ◌<◌, ◌^◌, ℕ, List, [], length, take, Option, Some, None, Ok}
+use Rattle.std.specs.Prelude.{◌≡◌, ◌⊎◌, ◌≤◌, ◌<◌, ◌^◌, ℕ, List, [], length, take, Option, Some, None, Result, Ok}
 use Rattle.rq_outside.specs.declared.pair.DiskPair.{DiskPair}
 use Rattle.rq_outside.specs.declared.pair.FileNo.{FileNo}
 use Rattle.rq_outside.specs.declared.pair.FileNo.TheVariants.{One, Two}
@@ -7,6 +7,7 @@ use Rattle.rq_outside.specs.Disk.{DiskMeaning}
 use Rattle.rq_outside.specs.Pair.{other, disk_at}
 use Rattle.rq_wal.specs.declared.base.Base.{Base}
 use Rattle.rq_wal.specs.declared.base.Stored.{Stored}
+use Rattle.rq_wal.specs.declared.error.OpenError.{OpenError}
 use Rattle.rq_wal.specs.declared.file.WalFile.{WalFile}
 use Rattle.rq_wal.specs.declared.frame.Frame.{Frame}
 use Rattle.rq_wal.specs.Gate.{EndsIn, IsAtRest}
@@ -57,6 +58,10 @@ IsFound first one two (Some opened) = IsOpened first one two opened.0 opened.1
 abbrev pub IsBegun : Base → List ℕ → Type 0
 IsBegun first file = (generation_of file ≡ None) ⊎ ((file ≡ file_bytes 1 first []) × (length (base_bytes first) < 2 ^ 64))
 
+-- this, with the first of these frames
+abbrev pub IsSome : Stored → List Frame → Result Stored OpenError → Type 0
+IsSome stored frames reading = (k : ℕ) × (k ≤ length frames) × (reading ≡ Ok (applied_all stored (take k frames)))
+
 module _ {D F : Type 0} (means : D → DiskMeaning) where
   -- the current file of a pair is a log at rest, and each image of the other one is behind it
   pub record IsCurrent (first : Base) (pair : DiskPair D F) (wal : WalFile) (stored : Stored) : Type 0 where
@@ -64,15 +69,26 @@ module _ {D F : Type 0} (means : D → DiskMeaning) where
     pub at_rest : IsAtRest (means (disk_at pair (wal_file wal))) (wal_end wal)
     pub behind : (c : List ℕ) → (means (disk_at pair (other (wal_file wal)))).images c → IsBehind (wal_file wal) (wal_generation wal) c
 
+  -- whatever a crash now leaves of the two files gives a reading with P
+  abbrev pub EachImage : Base → DiskPair D F → (Result Stored OpenError → Type 0) → Type 0
+  EachImage first pair P = (one two : List ℕ) → (means pair.one).images one → (means pair.two).images two → P (pair_gives first one two)
+
+  -- and whatever a crash since then left
+  abbrev pub EachSince : Base → DiskPair D F → DiskPair D F → (Result Stored OpenError → Type 0) → Type 0
+  EachSince first old new P = (one two : List ℕ) → (means new.one).since (means old.one).moment one → (means new.two).since (means old.two).moment two → P (pair_gives first one two)
+
+  -- something that a crash now may leave of the two files gives this reading
+  abbrev pub SomeImageGives : Base → DiskPair D F → Result Stored OpenError → Type 0
+  SomeImageGives first pair reading = (one two : List ℕ) × (means pair.one).images one × (means pair.two).images two × (reading ≡ pair_gives first one two)
+
   -- whatever a crash now leaves of the two files stands for what is stored
   abbrev pub EachImageGives : Base → DiskPair D F → Stored → Type 0
-  EachImageGives first pair stored = (one two : List ℕ) → (means pair.one).images one → (means pair.two).images two → pair_gives first one two ≡ Ok stored
+  EachImageGives first pair stored = EachImage first pair (λ reading. reading ≡ Ok stored)
 
   -- and whatever a crash since then left
   abbrev pub EachSinceGives : Base → DiskPair D F → DiskPair D F → Stored → Type 0
-  EachSinceGives first old new stored = (one two : List ℕ) → (means new.one).since (means old.one).moment one → (means new.two).since (means old.two).moment two → pair_gives first one two ≡ Ok stored
+  EachSinceGives first old new stored = EachSince first old new (λ reading. reading ≡ Ok stored)
 
   -- and whatever a crash since then left stands for that with the first of these frames
   abbrev pub EachSinceGivesSome : Base → DiskPair D F → DiskPair D F → Stored → List Frame → Type 0
-  EachSinceGivesSome first old new stored frames = (one two : List ℕ) → (means new.one).since (means old.one).moment one → (means new.two).since (means old.two).moment two
-      → (k : ℕ) × (k ≤ length frames) × (pair_gives first one two ≡ Ok (applied_all stored (take k frames)))
+  EachSinceGivesSome first old new stored frames = EachSince first old new (IsSome stored frames)

@@ -1,5 +1,7 @@
+pub mod Calls
 pub mod Current
 pub mod Gate
+pub mod Images
 pub mod Later
 pub mod Log
 pub mod Pieces

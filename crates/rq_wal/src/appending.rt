@@ -2,6 +2,7 @@
 ghost use Rattle.std.specs.Prelude.{◌≡◌, ◌≤◌, ◌<◌, ◌+◌, ◌^◌, ◌++◌, List, ℕ, length, take, drop, IsTrue, IfOk, OnOk, OnErr};
 ghost use Rattle.rq_outside.specs.Disk.{LeavesOnly, HasRoom, Uses};
 ghost use Rattle.rq_outside.specs.Pair.{other, disk_at, arm_of, UsedCalls, PairCause};
+ghost use Rattle.rq_wal.specs.Calls.{PassesMost};
 ghost use Rattle.rq_wal.specs.Gate.{IsAtRest, IsPiece, with_frame, IsBeforeOrAfter};
 
 use crate::synced::write_synced;
@@ -25,6 +26,7 @@ pub fn append<D: Disk>(
     ensures room { Uses (length piece.now + 1) 4 (D.means (disk_at disks.old file)) (D.means (disk_at disks.new file)) }
     ensures cause { PairCause D.means disks.old disks.new result }
     ensures arm { OnOk result (UsedCalls 4 (arm_of disks.old) (arm_of disks.new)) }
+    ensures most { PassesMost 4 (arm_of disks.old) (arm_of disks.new) }
 {
     write_synced(disks, file, place + 1, piece)?;
     write_synced(disks, file, place, &[1])?;

@@ -1,13 +1,16 @@
 //! The current file of a pair, and the frames that are to be added to it.
-ghost use Rattle.std.specs.Prelude.{◌≡◌, ◌≤◌, ◌<◌, ◌+◌, ◌*◌, ◌^◌, ◌++◌, List, ℕ, length, take, map, IsTrue, IfOk, OnOk, OnErr};
+ghost use Rattle.std.specs.Prelude.{◌≡◌, ◌⊎◌, ◌≤◌, ◌<◌, ◌+◌, ◌*◌, ◌^◌, ◌++◌, List, ℕ, length, take, map, IsTrue, IfOk, OnOk, OnErr};
 ghost use Rattle.std.specs.List.{flat_map};
+ghost use Rattle.rq_outside.specs.declared.pair.Arm.TheVariants as arms;
 ghost use Rattle.rq_outside.specs.Disk.{LeavesOnly, HasRoom, Uses, Stays, Elapses};
 ghost use Rattle.rq_outside.specs.Pair.{other, disk_at, arm_of, own_faults, UsedCalls, PairCause};
 ghost use Rattle.rq_wal.specs.declared.frame.Frame.{Frame};
 ghost use Rattle.rq_wal.specs.declared.base.Base.{Base};
 ghost use Rattle.rq_wal.specs.declared.base.Stored.{Stored};
-ghost use Rattle.rq_wal.specs.Current.{IsCurrent, EachImageGives, EachSinceGivesSome};
+ghost use Rattle.rq_wal.specs.Calls.{IsShort};
+ghost use Rattle.rq_wal.specs.Current.{IsCurrent, IsSome, EachImage, EachImageGives, EachSinceGivesSome, SomeImageGives};
 ghost use Rattle.rq_wal.specs.Gate.{IsAtRest, HasSomeOf};
+ghost use Rattle.rq_wal.specs.Later.{Later, DeviceRose};
 ghost use Rattle.rq_wal.specs.Rules.{AreAllowed};
 ghost use Rattle.rq_wal.specs.Stored.{applied_all};
 ghost use Rattle.rq_wal.specs.Pieces.{bytes_of};
@@ -106,10 +109,12 @@ impl WalFile {
         ensures same { IsTrue D.told → Stays (D.means (disk_at disks.old (wal_file self.old))) (D.means (disk_at disks.new (wal_file self.old))) }
         ensures at_rest { IsTrue D.told → IsAtRest (D.means (disk_at disks.old (wal_file self.old))) (wal_end self.old) → IsAtRest (D.means (disk_at disks.new (wal_file self.new))) (wal_end self.new) }
         ensures current { IsTrue D.told → (first : Base) (stored : Stored) → IsCurrent D.means first disks.old self.old stored → IsCurrent D.means first disks.new self.new stored }
+        ensures now { IsTrue D.told → (first : Base) → EachImage D.means first disks.new (SomeImageGives D.means first disks.old) }
         ensures time { IsTrue D.told → OnOk result (Elapses (D.means (disk_at disks.old (wal_file self.old))) (D.means (disk_at disks.new (wal_file self.old)))) }
         ensures faults { (D.means (disk_at disks.new (wal_file self.old))).faults ≡ (D.means (disk_at disks.old (wal_file self.old))).faults }
         ensures arm { arm_of disks.new ≡ arm_of disks.old }
         ensures own { own_faults disks.new ≡ own_faults disks.old }
+        ensures later { Later D.means disks.old disks.new }
     {
         let pieces = pieces(alloc, frames)?;
         let (bytes, calls) = room(self.end, total(&pieces)?, pieces.len())?;
@@ -133,8 +138,12 @@ impl WalFile {
         ensures current { IsTrue D.told → (first : Base) (stored : Stored) (frames : List Frame) → batch ≡ map piece_of frames → AreAllowed stored frames → IsCurrent D.means first disks.old self stored → IfOk result (λ wal. IsCurrent D.means first disks.new wal (applied_all stored frames)) }
         ensures images { IsTrue D.told → (first : Base) (stored : Stored) (frames : List Frame) → batch ≡ map piece_of frames → AreAllowed stored frames → IsCurrent D.means first disks.old self stored → OnOk result (EachImageGives D.means first disks.new (applied_all stored frames)) }
         ensures some_stand { IsTrue D.told → (first : Base) (stored : Stored) (frames : List Frame) → batch ≡ map piece_of frames → AreAllowed stored frames → IsCurrent D.means first disks.old self stored → EachSinceGivesSome D.means first disks.old disks.new stored frames }
+        ensures some_now { IsTrue D.told → (first : Base) (stored : Stored) (frames : List Frame) → batch ≡ map piece_of frames → AreAllowed stored frames → IsCurrent D.means first disks.old self stored → EachImage D.means first disks.new (IsSome stored frames) }
         ensures cause { PairCause D.means disks.old disks.new result }
+        ensures device { OnErr result (DeviceRose D.means disks.old disks.new ⊎ (arm_of disks.new ≡ arms.Struck)) }
+        ensures later { Later D.means disks.old disks.new }
         ensures calls { OnOk result (UsedCalls (4 * length batch) (arm_of disks.old) (arm_of disks.new)) }
+        ensures struck { arm_of disks.new ≡ arms.Struck → IsShort (4 * length batch) (arm_of disks.old) }
     {
         let end = write_frames(disks, self.file, self.end, &batch.pieces)?;
         Ok(WalFile {

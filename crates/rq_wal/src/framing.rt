@@ -2,6 +2,7 @@
 ghost use Rattle.std.specs.Prelude.{◌≡◌, ◌≤◌, ◌<◌, ◌+◌, ◌*◌, ◌^◌, ◌++◌, List, ℕ, length, take, drop, All, IsTrue, IfOk, OnOk, OnErr};
 ghost use Rattle.rq_outside.specs.Disk.{LeavesOnly, HasRoom, Uses};
 ghost use Rattle.rq_outside.specs.Pair.{other, disk_at, arm_of, UsedCalls, PairCause};
+ghost use Rattle.rq_wal.specs.Calls.{PassesMost};
 ghost use Rattle.rq_wal.specs.Gate.{IsAtRest, IsPiece};
 ghost use Rattle.rq_wal.specs.Pieces.{with_frames, bytes_of, HasSomePieces};
 
@@ -27,6 +28,7 @@ pub fn write_frames<D: Disk>(
     ensures any_moment { IsTrue D.told → LeavesOnly (D.means (disk_at disks.old file)) (D.means (disk_at disks.new file)) (HasSomePieces (take place (D.means (disk_at disks.old file)).content) pieces.now) }
     ensures cause { PairCause D.means disks.old disks.new result }
     ensures arm { OnOk result (UsedCalls (4 * length pieces.now) (arm_of disks.old) (arm_of disks.new)) }
+    ensures most { PassesMost (4 * length pieces.now) (arm_of disks.old) (arm_of disks.new) }
 {
     let mut end = place;
     for piece in pieces {

@@ -20,7 +20,7 @@ pub use base::{Base, Stored};
 pub use error::OpenError;
 pub use file::{Batch, WalFile};
 pub use frame::Frame;
-pub use laws::logs_are_read_as_written;
+pub use laws::{current_logs_stand, logs_are_read_as_written};
 pub use opening::open;
 
 #[cfg(test)]

@@ -1,11 +1,13 @@
 //! Opening a pair.
 ghost use Rattle.std.specs.Prelude.{◌≡◌, ◌≢◌, ◌⊎◌, ◌≤◌, ◌<◌, ◌+◌, ◌^◌, [], length, true, false, Some, None, Ok, Err, IsTrue, IfOk, IfErr, OnOk, OnErr, IfSome, OnSome, IsErrOf};
 ghost use Rattle.rq_outside.specs.Disk.{Only, Stays, LeavesOnly};
-ghost use Rattle.rq_outside.specs.Pair.{other, disk_at, PairRose};
-ghost use Rattle.rq_wal.specs.Later.{Later};
+ghost use Rattle.rq_outside.specs.declared.pair.Arm.TheVariants as arms;
+ghost use Rattle.rq_outside.specs.Pair.{other, disk_at, arm_of, PairRose};
+ghost use Rattle.rq_wal.specs.Calls.{PassesMost};
+ghost use Rattle.rq_wal.specs.Later.{Later, DeviceRose};
 ghost use Rattle.rq_wal.specs.declared.base.Stored.{Stored};
 ghost use Rattle.rq_wal.specs.declared.error.OpenError.TheVariants as errors;
-ghost use Rattle.rq_wal.specs.Current.{IsBegun, IsFound, IsCurrent, EachImageGives, EachSinceGives};
+ghost use Rattle.rq_wal.specs.Current.{IsBegun, IsFound, IsCurrent, EachImage, EachSince, EachImageGives, SomeImageGives};
 ghost use Rattle.rq_wal.specs.Gate.{IsAtRest};
 ghost use Rattle.rq_wal.specs.Reading.{pair_gives};
 ghost use Rattle.rq_wal.specs.Replace.{is_open, generation_of};
@@ -36,7 +38,10 @@ pub fn open<D: Disk>(
     ensures gives { IsTrue D.told → IfOk result (λ opened. pair_gives first.now (D.means (disk_at disks.old FileNo.One)).content (D.means (disk_at disks.old FileNo.Two)).content ≡ Ok opened.1) }
     ensures current { IsTrue D.told → IfOk result (λ opened. IsCurrent D.means first.now disks.new opened.0 opened.1) }
     ensures images { IsTrue D.told → IfOk result (λ opened. EachImageGives D.means first.now disks.new opened.1) }
-    ensures any_moment { IsTrue D.told → (stored : Stored) → EachImageGives D.means first.now disks.old stored → EachSinceGives D.means first.now disks.old disks.new stored }
+    ensures any_moment { IsTrue D.told → EachSince D.means first.now disks.old disks.new (SomeImageGives D.means first.now disks.old) }
+    ensures now { IsTrue D.told → EachImage D.means first.now disks.new (SomeImageGives D.means first.now disks.old) }
+    ensures opened { IsTrue D.told → IfOk result (λ opened. SomeImageGives D.means first.now disks.old (Ok opened.1)) }
+    ensures refused { IsTrue D.told → IfErr result (λ e. (e ≡ errors.Disk) ⊎ (e ≡ errors.NoMemory) ⊎ SomeImageGives D.means first.now disks.old (Err e)) }
     ensures refusals { IsTrue D.told → IfErr result (λ e. (e ≡ errors.Disk) ⊎ (e ≡ errors.NoMemory) ⊎ (pair_gives first.now (D.means (disk_at disks.old FileNo.One)).content (D.means (disk_at disks.old FileNo.Two)).content ≡ Err e)) }
     ensures unchanged { IsTrue D.told → IfErr result (λ e. (e ≡ errors.Disk) ⊎ ((D.means (disk_at disks.new FileNo.One)).content ≡ (D.means (disk_at disks.old FileNo.One)).content)) }
     ensures two { IsTrue D.told → (D.means (disk_at disks.new FileNo.Two)).content ≡ (D.means (disk_at disks.old FileNo.Two)).content }
@@ -47,6 +52,9 @@ pub fn open<D: Disk>(
     ensures written { IsTrue D.told → is_open (D.means (disk_at disks.old FileNo.One)).content ≡ false → is_open (D.means (disk_at disks.old FileNo.Two)).content ≡ false → OnOk result ((D.means (disk_at disks.new FileNo.One)).content ≡ file_bytes 1 first.now []) }
     ensures at_rest { IfOk result (λ opened. IsTrue D.told → IsAtRest (D.means (disk_at disks.new (wal_file opened.0))) (wal_end opened.0)) }
     ensures cause { IsErrOf result errors.Disk → PairRose D.means disks.old disks.new }
+    ensures by { IsErrOf result errors.Disk → DeviceRose D.means disks.old disks.new ⊎ (arm_of disks.new ≡ arms.Struck) }
+    ensures later { Later D.means disks.old disks.new }
+    ensures arm { PassesMost 10 (arm_of disks.old) (arm_of disks.new) }
 {
     let found = find(alloc, disks, first)?;
     settle(alloc, disks, first, found)
@@ -76,6 +84,8 @@ fn settle<D: Disk>(
     ensures refusals { IfErr result (λ e. (e ≡ errors.Disk) ⊎ (e ≡ errors.NoMemory)) }
     ensures later { Later D.means disks.old disks.new }
     ensures cause { IsErrOf result errors.Disk → PairRose D.means disks.old disks.new }
+    ensures by { IsErrOf result errors.Disk → DeviceRose D.means disks.old disks.new ⊎ (arm_of disks.new ≡ arms.Struck) }
+    ensures most { PassesMost 8 (arm_of disks.old) (arm_of disks.new) }
 {
     match found {
         Some(opened) => Ok(opened),
@@ -99,6 +109,8 @@ fn find<D: Disk>(
     ensures two_moments { IsTrue D.told → LeavesOnly (D.means (disk_at disks.old FileNo.Two)) (D.means (disk_at disks.new FileNo.Two)) (D.means (disk_at disks.old FileNo.Two)).images }
     ensures later { Later D.means disks.old disks.new }
     ensures cause { IsErrOf result errors.Disk → PairRose D.means disks.old disks.new }
+    ensures by { IsErrOf result errors.Disk → DeviceRose D.means disks.old disks.new ⊎ (arm_of disks.new ≡ arms.Struck) }
+    ensures most { PassesMost 2 (arm_of disks.old) (arm_of disks.new) }
 {
     let (one, two) = look(alloc, disks)?;
     choose(alloc, first, &one, &two)
@@ -125,6 +137,8 @@ fn begin<D: Disk>(
     ensures refusals { IfErr result (λ e. (e ≡ errors.Disk) ⊎ (e ≡ errors.NoMemory)) }
     ensures later { Later D.means disks.old disks.new }
     ensures cause { IsErrOf result errors.Disk → PairRose D.means disks.old disks.new }
+    ensures by { IsErrOf result errors.Disk → DeviceRose D.means disks.old disks.new ⊎ (arm_of disks.new ≡ arms.Struck) }
+    ensures most { PassesMost 8 (arm_of disks.old) (arm_of disks.new) }
 {
     let stored = start(alloc, first.copy()?);
     let body = body(alloc, 1, first)?;
@@ -152,6 +166,8 @@ fn look<D: Disk>(alloc: Global, disks: &mut DiskPair<D>) -> Result<(Vec<u8>, Vec
     ensures later { Later D.means disks.old disks.new }
     ensures refusals { IfErr result (λ e. (e ≡ errors.Disk) ⊎ (e ≡ errors.NoMemory)) }
     ensures cause { IsErrOf result errors.Disk → PairRose D.means disks.old disks.new }
+    ensures by { IsErrOf result errors.Disk → DeviceRose D.means disks.old disks.new ⊎ (arm_of disks.new ≡ arms.Struck) }
+    ensures most { PassesMost 2 (arm_of disks.old) (arm_of disks.new) }
 {
     let one = read_synced(alloc, disks, FileNo::One)?;
     let two = read_synced(alloc, disks, FileNo::Two)?;
@@ -172,6 +188,8 @@ fn read_synced<D: Disk>(
     ensures later { Later D.means disks.old disks.new }
     ensures refusals { IfErr result (λ e. (e ≡ errors.Disk) ⊎ (e ≡ errors.NoMemory)) }
     ensures cause { IsErrOf result errors.Disk → PairRose D.means disks.old disks.new }
+    ensures by { IsErrOf result errors.Disk → DeviceRose D.means disks.old disks.new ⊎ (arm_of disks.new ≡ arms.Struck) }
+    ensures most { PassesMost 1 (arm_of disks.old) (arm_of disks.new) }
 {
     sync_made(disks, file)?;
     read_whole(alloc, disks, file)
@@ -186,6 +204,8 @@ fn sync_made<D: Disk>(disks: &mut DiskPair<D>, file: FileNo) -> Result<(), OpenE
     ensures refusals { IfErr result (λ e. (e ≡ errors.Disk) ⊎ (e ≡ errors.NoMemory)) }
     ensures later { Later D.means disks.old disks.new }
     ensures cause { IsErrOf result errors.Disk → PairRose D.means disks.old disks.new }
+    ensures by { IsErrOf result errors.Disk → DeviceRose D.means disks.old disks.new ⊎ (arm_of disks.new ≡ arms.Struck) }
+    ensures most { PassesMost 1 (arm_of disks.old) (arm_of disks.new) }
 {
     disks.ready(file, 0, 1)?;
     disks.sync(file)?;
@@ -205,6 +225,8 @@ fn read_whole<D: Disk>(
     ensures refusals { IfErr result (λ e. (e ≡ errors.Disk) ⊎ (e ≡ errors.NoMemory)) }
     ensures later { Later D.means disks.old disks.new }
     ensures cause { IsErrOf result errors.Disk → PairRose D.means disks.old disks.new }
+    ensures by { IsErrOf result errors.Disk → DeviceRose D.means disks.old disks.new ⊎ (arm_of disks.new ≡ arms.Struck) }
+    ensures most { PassesMost 0 (arm_of disks.old) (arm_of disks.new) }
 {
     let len = disks.len(file)?;
     let mut bytes = vec![in alloc; 0u8; len as usize]?;

@@ -2,6 +2,7 @@
 ghost use Rattle.std.specs.Prelude.{◌≡◌, ◌≤◌, ◌<◌, ◌+◌, ◌++◌, ◌∷◌, [], Some, List, ℕ, length, take, drop, IsTrue, IfOk, OnOk, OnErr};
 ghost use Rattle.rq_outside.specs.Disk.{Only, LeavesOnly, HasRoom, Uses};
 ghost use Rattle.rq_outside.specs.Pair.{other, disk_at, arm_of, UsedCalls, PairCause};
+ghost use Rattle.rq_wal.specs.Calls.{PassesMost};
 ghost use Rattle.rq_wal.specs.Replace.{generation_of, IsBelow, IsOldOrNew};
 
 use crate::synced::{cut_synced, write_synced};
@@ -23,6 +24,7 @@ pub fn begin_replace<D: Disk>(
     ensures room { Uses 1 4 (D.means (disk_at disks.old file)) (D.means (disk_at disks.new file)) }
     ensures cause { PairCause D.means disks.old disks.new result }
     ensures arm { OnOk result (UsedCalls 4 (arm_of disks.old) (arm_of disks.new)) }
+    ensures most { PassesMost 4 (arm_of disks.old) (arm_of disks.new) }
 {
     cut_synced(disks, file, 0)?;
     write_synced(disks, file, 0, &[0])?;
@@ -48,6 +50,7 @@ pub fn finish_replace<D: Disk>(
     ensures room { Uses (length rest.now + 1) 4 (D.means (disk_at disks.old file)) (D.means (disk_at disks.new file)) }
     ensures cause { PairCause D.means disks.old disks.new result }
     ensures arm { OnOk result (UsedCalls 4 (arm_of disks.old) (arm_of disks.new)) }
+    ensures most { PassesMost 4 (arm_of disks.old) (arm_of disks.new) }
 {
     write_synced(disks, file, 1, rest)?;
     write_synced(disks, file, 0, &[1])?;

@@ -2,6 +2,7 @@
 ghost use Rattle.std.specs.Prelude.{◌≡◌, ◌≤◌, ◌<◌, ◌++◌, List, ℕ, length, take, drop, IsTrue, IfOk, OnOk, OnErr};
 ghost use Rattle.rq_outside.specs.Disk.{Torn, Cut, Holds, Only, LeavesOnly, HasRoom, Uses};
 ghost use Rattle.rq_outside.specs.Pair.{other, disk_at, arm_of, UsedCalls, PairCause};
+ghost use Rattle.rq_wal.specs.Calls.{PassesMost};
 
 use rq_outside::{Disk, DiskPair, Failed, FileNo};
 
@@ -23,6 +24,7 @@ pub fn write_synced<D: Disk>(
     ensures room { Uses (length piece.now) 2 (D.means (disk_at disks.old file)) (D.means (disk_at disks.new file)) }
     ensures cause { PairCause D.means disks.old disks.new result }
     ensures arm { OnOk result (UsedCalls 2 (arm_of disks.old) (arm_of disks.new)) }
+    ensures most { PassesMost 2 (arm_of disks.old) (arm_of disks.new) }
 {
     disks.write_at(file, at, piece)?;
     disks.sync(file)?;
@@ -41,6 +43,7 @@ pub fn cut_synced<D: Disk>(disks: &mut DiskPair<D>, file: FileNo, to: u64) -> Re
     ensures room { Uses 0 2 (D.means (disk_at disks.old file)) (D.means (disk_at disks.new file)) }
     ensures cause { PairCause D.means disks.old disks.new result }
     ensures arm { OnOk result (UsedCalls 2 (arm_of disks.old) (arm_of disks.new)) }
+    ensures most { PassesMost 2 (arm_of disks.old) (arm_of disks.new) }
 {
     disks.cut(file, to)?;
     disks.sync(file)?;

@@ -1,4 +1,4 @@
-use Rattle.std.proofs.Common.{Some, sym, ap, ◌∙◌, arith}
+use Rattle.std.proofs.Common.{Some, sym, ap, ◌∙◌}
 use Rattle.rq_wal.proofs.Chosen.{is_generation, no_generation}
 use Rattle.rq_wal.proofs.Headers.{short}
 use Rattle.rq_wal.proofs.Opened.{is_open_by}

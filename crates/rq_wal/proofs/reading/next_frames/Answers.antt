@@ -1,4 +1,4 @@
-use Rattle.std.proofs.Common.{Ok, ◌≡◌, ◌+◌, ◌∷◌, [], List, ℕ, length, sym, ◌∙◌, ap, subst, arith}
+use Rattle.std.proofs.Common.{Ok, ◌≡◌, ◌+◌, ◌∷◌, List, ℕ, length, sym, ◌∙◌, ap, subst, arith}
 use Rattle.std.proofs.lemmas.Result.{err_from_is_err_and}
 use Rattle.rq_values.specs.declared.error.ReadError.{ReadError}
 use Rattle.rq_values.specs.Reading.{Fails}

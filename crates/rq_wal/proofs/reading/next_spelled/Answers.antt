@@ -1,4 +1,4 @@
-use Rattle.std.proofs.Common.{◌≡◌, sym, ◌∙◌, arith}
+use Rattle.std.proofs.Common.{sym, ◌∙◌, arith}
 use Rattle.std.proofs.lemmas.Result.{err_from_is_err_and}
 use Rattle.rq_wal.proofs.SpelledRead.{ends, differs, agrees, shorter, spelled_out}
 use Rattle.rq_wal.proofs.reading.next_spelled.Goals as goal

@@ -4,6 +4,8 @@ use Rattle.rq_wal.specs.Pieces.{with_frames, HasSomePieces}
 use Rattle.rq_wal.specs.Spelling.{piece_of}
 use Rattle.rq_wal.proofs.Framed.{framed, some_framed}
 use Rattle.rq_wal.specs.Stored.{applied_all}
+use Rattle.rq_wal.specs.Current.{IsSome}
+use Rattle.rq_wal.proofs.ImagesNow.{since_now_at}
 use Rattle.rq_wal.proofs.LogMore.{current_more, some_stand}
 use Rattle.rq_wal.proofs.Moments.{weaker}
 use Rattle.rq_wal.proofs.Standing.{images_give}
@@ -48,3 +50,13 @@ pub returns-in_err-end-clause-some_stand : goal.returns-in_err-end-clause-some_s
 returns-in_err-end-clause-some_stand g c told first stored frames same allowed current =
     some_stand g.D.Disk.means first c.args.disks.now c.write_frames.new.disks c.args.self stored frames allowed current c.write_frames.ensures.other (returns-in_err-end-clause-any_moment g c told frames same)
     (g.met.D.Disk.only_now told (disk_at c.args.disks.now (other c.args.self.file)))
+
+pub returns-clause-some_now : goal.returns-clause-some_now
+returns-clause-some_now g c told first stored frames same allowed current =
+    since_now_at g.D.Disk.means first (g.met.D.Disk.counts_now told) (IsSome stored frames) c.args.disks.now c.write_frames.new.disks c.args.self.file c.write_frames.ensures.other (c.write_frames.ensures.any_moment told).later
+    (returns-clause-some_stand g c told first stored frames same allowed current)
+
+pub returns-in_err-end-clause-some_now : goal.returns-in_err-end-clause-some_now
+returns-in_err-end-clause-some_now g c told first stored frames same allowed current =
+    since_now_at g.D.Disk.means first (g.met.D.Disk.counts_now told) (IsSome stored frames) c.args.disks.now c.write_frames.new.disks c.args.self.file c.write_frames.ensures.other (c.write_frames.ensures.any_moment told).later
+    (returns-in_err-end-clause-some_stand g c told first stored frames same allowed current)
