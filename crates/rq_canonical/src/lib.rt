@@ -1,0 +1,6 @@
+//! Canonical text is read as its statement: laws, each the contract of a function that does nothing.
+#![tactic(auto)]
+
+mod laws;
+
+pub use laws::few_parentheses_are_open;
