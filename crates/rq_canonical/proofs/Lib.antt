@@ -1,1 +1,4 @@
+mod Again
+mod GoodExpr
+mod GoodStmt
 mod Opened

@@ -3,4 +3,4 @@
 
 mod laws;
 
-pub use laws::few_parentheses_are_open;
+pub use laws::{few_parentheses_are_open, what_is_read_is_proper};
