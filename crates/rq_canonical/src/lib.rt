@@ -3,4 +3,7 @@
 
 mod laws;
 
-pub use laws::{few_parentheses_are_open, what_is_read_is_proper};
+pub use laws::{
+    canonical_text_is_prepared_again, few_parentheses_are_open, printed_text_is_read,
+    what_is_read_is_proper,
+};
