@@ -69,5 +69,10 @@ plain_too_long n fits =
     list_all-append (λ byte. nat_lt 0 byte && nat_lt byte 128) (codes "statement too long: ") (decimal n)
     ∙ plain_decimal n fits
 
+pub plain_too_large : (n : ℕ) → n < 2 ^ 64 → is_plain (codes "statement too large: " ++ decimal n) ≡ true
+plain_too_large n fits =
+    list_all-append (λ byte. nat_lt 0 byte && nat_lt byte 128) (codes "statement too large: ") (decimal n)
+    ∙ plain_decimal n fits
+
 pub nothing_text : is_text [] ≡ true
 nothing_text = is_text_from_plain [] refl

@@ -1,9 +1,11 @@
 -- What a statement's text is, made ready for the log: docs/SQL.md, "Statements that run today" and "Errors of reading".
-use Rattle.std.specs.Prelude.{◌≡◌, ◌-◌, ◌==◌, nat_eq, ℕ, if◌then◌else◌, List, [], take, drop, codes, Option, Some, None, Result, Ok, Err}
+use Rattle.std.specs.Prelude.{◌≡◌, ◌-◌, ◌==◌, nat_eq, nat_le, ℕ, if◌then◌else◌, List, [], ◌++◌, length, take, drop, codes, Option, Some, None, Result, Ok, Err}
+use Rattle.std.specs.Fmt.{decimal}
 use Rattle.rq_grammar.specs.declared.stmt.Stmt.{Stmt}
 use Rattle.rq_sql.specs.declared.error.ReadError.{ReadError}
 use Rattle.rq_sql.specs.declared.error.ReadError.TheVariants as e
-use Rattle.rq_sql.specs.Read.{Means}
+use Rattle.rq_sql.specs.Read.{most_bytes, Means}
+use Rattle.rq_engine.specs.Canonical.{canonical}
 use Rattle.rq_engine.specs.declared.item.Item.{Item}
 use Rattle.rq_engine.specs.declared.item.Item.TheVariants.{Run, Fail}
 use Rattle.rq_engine.specs.declared.statement.Statement.{Statement}
@@ -29,9 +31,17 @@ error_text text (e.NotInProfile from upto) = not_in_profile (source text from up
 error_text text (e.TooDeep place) = too_deep
 error_text text e.NoMemory = []
 
+-- a canonical text of so many bytes
+abbrev pub too_large : ℕ → List ℕ
+too_large n = codes "statement too large: " ++ decimal n
+
+-- a statement runs where its canonical text is no longer than what is read
+abbrev pub item_of_built : Statement → Item
+item_of_built statement = if nat_le (length (canonical statement)) most_bytes then Run statement else Fail (too_large (length (canonical statement)))
+
 -- the form in which a statement runs, or the error of one that isn't built
 abbrev pub item_of_form : Option Statement → Item
-item_of_form (Some statement) = Run statement
+item_of_form (Some statement) = item_of_built statement
 item_of_form None = Fail not_built
 
 abbrev pub item_of : List ℕ → Result Stmt ReadError → Item

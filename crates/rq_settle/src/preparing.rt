@@ -1,16 +1,20 @@
 //! A statement's text, made ready for the log.
-ghost use Rattle.std.specs.Prelude.{◌≡◌, ◌-◌, ℕ, List, take, drop, IfOk, OnOk};
+ghost use Rattle.std.specs.Prelude.{◌≡◌, ◌-◌, ℕ, List, length, take, drop, IfOk, OnOk};
+ghost use Rattle.rq_engine.specs.Canonical.{canonical};
 ghost use Rattle.rq_sql.specs.declared.error.ReadError.TheVariants as errors;
 ghost use Rattle.rq_settle.specs.Built.{built as built_form};
 ghost use Rattle.rq_settle.specs.Prepared as spec;
 
 use crate::converting::built;
-use crate::refusing::{incomplete, near, not_built, not_in_profile, too_deep, too_long};
-use rq_engine::Item;
+use crate::refusing::{incomplete, near, not_built, not_in_profile, too_deep, too_large, too_long};
+use rq_engine::{Item, Statement};
 use rq_grammar::Stmt;
 use rq_sql::{ReadError, each_text_has_one_answer, read};
 use rq_values::{NoMemory, Text};
 use std::alloc::Global;
+
+/// How many bytes a canonical text may have, as many as a text that is read.
+const MOST_BYTES: usize = 4_194_304;
 
 /// The bytes between two places.
 #[tactic(auto, using(crate::proofs::Sources::between))]
@@ -46,12 +50,33 @@ fn error_text(alloc: Global, text: &[u8], error: ReadError) -> Result<Text, NoMe
     }
 }
 
+/// How many bytes the statement's canonical text has.
+fn canonical_len(alloc: Global, statement: &Statement) -> Result<usize, NoMemory>
+    ensures { IfOk result (λ len. len ≡ length (canonical statement.now)) }
+{
+    let mut bytes = Vec::new(alloc);
+    rq_engine::print(statement, &mut bytes)?;
+    Ok(bytes.as_slice().len())
+}
+
+/// The item of a statement in the form in which it runs.
+fn item_of_built(alloc: Global, statement: Statement) -> Result<Item, NoMemory>
+    ensures { IfOk result (λ item. item ≡ spec.item_of_built statement) }
+{
+    let len = canonical_len(alloc, &statement)?;
+    if len <= MOST_BYTES {
+        Ok(Item::Run(statement))
+    } else {
+        Ok(Item::Fail(too_large(alloc, len)?))
+    }
+}
+
 /// The item of a statement.
 fn item_of(alloc: Global, stmt: &Stmt) -> Result<Item, NoMemory>
     ensures { IfOk result (λ item. item ≡ spec.item_of_form (built_form stmt.now)) }
 {
     match built(alloc, stmt)? {
-        Some(statement) => Ok(Item::Run(statement)),
+        Some(statement) => item_of_built(alloc, statement),
         None => Ok(Item::Fail(not_built(alloc)?)),
     }
 }

@@ -1,7 +1,7 @@
 //! The errors of statements that aren't read: docs/SQL.md, "Errors of reading".
 ghost use Rattle.std.specs.Prelude.{◌≡◌, ◌++◌, true, IsTrue, IfOk, OnOk};
 ghost use Rattle.rq_values.specs.Text.{is_text};
-ghost use Rattle.rq_settle.specs.Prepared.{not_built as not_built_text};
+ghost use Rattle.rq_settle.specs.Prepared.{not_built as not_built_text, too_large as too_large_text};
 ghost use Rattle.rq_settle.specs.Refused as spec;
 
 use crate::showing::show;
@@ -37,6 +37,17 @@ pub fn too_long(alloc: Global, len: usize) -> Result<Text, NoMemory>
 {
     let mut bytes = Vec::new(alloc);
     let piece = format!(in alloc; "statement too long: {len}")?;
+    put(piece.as_bytes(), &mut bytes)?;
+    known_text(alloc, &bytes)
+}
+
+/// The canonical text has so many bytes.
+#[tactic(auto, using(crate::proofs::Plain::plain_too_large, crate::proofs::Plain::nothing_text))]
+pub fn too_large(alloc: Global, len: usize) -> Result<Text, NoMemory>
+    ensures { IfOk result (λ text. text ≡ too_large_text len) }
+{
+    let mut bytes = Vec::new(alloc);
+    let piece = format!(in alloc; "statement too large: {len}")?;
     put(piece.as_bytes(), &mut bytes)?;
     known_text(alloc, &bytes)
 }

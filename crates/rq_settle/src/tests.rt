@@ -1,5 +1,6 @@
 //! Statements and their canonical text.
 use super::*;
+use rq_engine::Item;
 use rq_grammar::{
     BinaryOp, ColumnDef, ColumnKind, Expr, InsertRows, OrderTerm, ResultItem, SelectStmt, Stmt,
 };
@@ -286,5 +287,28 @@ fn statements_and_their_canonical_text(rt: HostRuntime) -> Result<(), Fail> {
     let alloc = rt.alloc();
     assert_eq!(rt; printed(alloc, &writes(alloc)?)?.as_str(), WRITES);
     assert_eq!(rt; printed(alloc, &queries(alloc)?)?.as_str(), QUERIES);
+    Ok(())
+}
+
+/// The error of a select from a table whose name has so many letters, nothing where it runs.
+fn error_of_name(alloc: Global, letters: usize) -> Result<String, Fail> {
+    let mut source = Vec::from_slice(alloc, b"SELECT * FROM ")?;
+    for _ in 0..letters {
+        source.push(b'a')?;
+    }
+    match prepare(alloc, &source)? {
+        Item::Run(_) => Ok(String::new(alloc)),
+        Item::Fail(error) => Ok(String::from_utf8_lossy(alloc, error.bytes())?),
+    }
+}
+
+#[test]
+fn canonical_text_at_its_limit(rt: HostRuntime) -> Result<(), Fail> {
+    let alloc = rt.alloc();
+    assert_eq!(rt; error_of_name(alloc, 4_194_288)?.as_str(), "");
+    assert_eq!(rt;
+        error_of_name(alloc, 4_194_289)?.as_str(),
+        "statement too large: 4194305"
+    );
     Ok(())
 }

@@ -1,0 +1,5 @@
+mod Again
+mod BuiltText
+mod GoodExpr
+mod GoodStmt
+mod Opened

@@ -1,0 +1,16 @@
+//! Canonical text is read as its statement: laws, each the contract of a function that does nothing, and printing and reading in one call.
+#![tactic(auto)]
+
+mod laws;
+mod rereading;
+mod written;
+
+pub use laws::{
+    canonical_text_is_prepared_again, few_parentheses_are_open, printed_text_is_read,
+    what_is_read_is_proper,
+};
+pub use rereading::read_printed;
+pub use written::each_statement_is_written;
+
+#[cfg(test)]
+mod tests;
