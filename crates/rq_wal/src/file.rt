@@ -7,7 +7,7 @@ ghost use Rattle.rq_outside.specs.Pair.{other, disk_at, arm_of, own_faults, Used
 ghost use Rattle.rq_wal.specs.declared.frame.Frame.{Frame};
 ghost use Rattle.rq_wal.specs.declared.base.Base.{Base};
 ghost use Rattle.rq_wal.specs.declared.base.Stored.{Stored};
-ghost use Rattle.rq_wal.specs.Calls.{IsShort};
+ghost use Rattle.rq_wal.specs.Calls.{PassesMost, IsShort};
 ghost use Rattle.rq_wal.specs.Current.{IsCurrent, IsSome, EachImage, EachImageGives, EachSinceGivesSome, SomeImageGives};
 ghost use Rattle.rq_wal.specs.Gate.{IsAtRest, HasSomeOf};
 ghost use Rattle.rq_wal.specs.Later.{Later, DeviceRose};
@@ -143,6 +143,7 @@ impl WalFile {
         ensures device { OnErr result (DeviceRose D.means disks.old disks.new ⊎ (arm_of disks.new ≡ arms.Struck)) }
         ensures later { Later D.means disks.old disks.new }
         ensures calls { OnOk result (UsedCalls (4 * length batch) (arm_of disks.old) (arm_of disks.new)) }
+        ensures most { PassesMost (4 * length batch) (arm_of disks.old) (arm_of disks.new) }
         ensures struck { arm_of disks.new ≡ arms.Struck → IsShort (4 * length batch) (arm_of disks.old) }
     {
         let end = write_frames(disks, self.file, self.end, &batch.pieces)?;

@@ -1,0 +1,7 @@
+mod Addresses
+mod Allowed
+mod FileSteps
+mod Kept
+mod NodeSteps
+mod Openings
+mod Readable

@@ -1,0 +1,135 @@
+-- Steps of a node.
+use Rattle.std.proofs.Common.{◌≡◌, ◌<◌, ◌≤◌, ℕ, zero, suc, ◌+◌, ◌-◌, List, [], ◌∷◌, ◌++◌, length, get_or, slice_get, Some, None, Option, refl, sym, ◌∙◌, ap, subst, arith}
+use Rattle.std.proofs.lemmas.List.{append-nil}
+use Rattle.std.proofs.lemmas.Option.{slice_get-get_or}
+use Rattle.rq_engine.specs.declared.say.Answer.{Answer}
+use Rattle.rq_node.specs.declared.log_entry.LogEntry.{LogEntry}
+use Rattle.rq_node.specs.declared.log_entry.Content.{Content}
+use Rattle.rq_node.specs.declared.waiting.Waiting.{Waiting}
+use Rattle.rq_engine.specs.declared.item.Item.{Item}
+use Rattle.rq_engine.specs.declared.command.Res.{Res}
+use Rattle.rq_engine.specs.Database.{Database}
+use Rattle.rq_engine.specs.Meaning.{executed}
+use Rattle.rq_node.specs.declared.log_entry.Content.TheVariants.{NoOp, Execute}
+use Rattle.rq_node.specs.Node.{Node, Turn, Durable}
+use Rattle.rq_node.specs.Rules.{apply_times, apply_next, applied_entry, applied_content, answered, left_waiting}
+
+-- one entry more is applied
+pub times_next : (a c : ℕ) (turn : Turn) → a < c → apply_times (c - a) turn ≡ apply_times (c - (a + 1)) (apply_next turn)
+unfolding apply_times
+times_next a c turn lt =
+    let e : c - a ≡ suc (c - (a + 1)) = omega arith in
+    ap (λ (n : ℕ). apply_times n turn) e
+
+pub times_none : (a c : ℕ) (turn : Turn) → (a < c → ⊥) → apply_times (c - a) turn ≡ turn
+unfolding apply_times
+times_none a c turn ge =
+    let e : c - a ≡ zero = omega arith in
+    ap (λ (n : ℕ). apply_times n turn) e
+
+-- the entry that is applied next, by what it holds
+pub applies : (n : Node) (entry : LogEntry) (content : Content) → n.applied < length n.log → entry ≡ get_or n.log n.applied entry → entry.content ≡ content
+    → applied_entry n (slice_get n.log n.applied) ≡ applied_content n (n.applied + 1) content
+applies n entry content within is holds =
+    ap (applied_entry n) (slice_get-get_or n.log n.applied entry within ∙ ap (λ (e : LogEntry). Some e) (sym is))
+    ∙ ap (applied_content n (n.applied + 1)) holds
+
+pub nothing_behind : (answers : List Answer) → answers ≡ answers ++ []
+nothing_behind answers = sym (append-nil answers)
+
+-- the same, where the node is seen by its parts
+pub applies_seen : (n m : Node) (entry : LogEntry) (content : Content) → m ≡ n → n.applied < n.commit → m.commit ≤ length m.log
+    → entry ≡ get_or m.log m.applied entry → entry.content ≡ content
+    → applied_entry n (slice_get n.log n.applied) ≡ applied_content n (n.applied + 1) content
+applies_seen n m entry content same less within is holds =
+    let P : Node → Type 0 = λ k. k.applied < k.commit → applied_entry k (slice_get k.log k.applied) ≡ applied_content k (k.applied + 1) content in
+    subst P same (λ below. applies m entry content (omega (arith, below, within)) is holds) less
+
+-- what an entry with a list changes, by the new parts
+module _ (n m : Node) (entry : LogEntry) (items : List Item) (same : m ≡ n) (less : n.applied < n.commit) (within : m.commit ≤ length m.log)
+    (is : entry ≡ get_or m.log m.applied entry) (holds : entry.content ≡ Execute items) where
+  executes : applied_content m (m.applied + 1) (Execute items) ≡ applied_entry n (slice_get n.log n.applied)
+  executes =
+      let turn = applies_seen n m entry (Execute items) same less within is holds in
+      sym (turn ∙ ap (λ (k : Node). applied_content k (k.applied + 1) (Execute items)) (sym same))
+
+  pub executes_node : (waiting : List Waiting) (database : Database) → waiting ≡ left_waiting (m.applied + 1) m.waiting → database ≡ (executed m.database items).0
+      → record m { applied = m.applied + 1; waiting = waiting; database = database } ≡ (applied_entry n (slice_get n.log n.applied)).node
+  executes_node waiting database left made =
+      let next : Node = record m { applied = m.applied + 1 } in
+      ap (λ (w : List Waiting). record next { waiting = w; database = database }) left
+      ∙ ap (λ (d : Database). record next { waiting = left_waiting (m.applied + 1) m.waiting; database = d }) made
+      ∙ ap (λ (t : Turn). t.node) executes
+
+  pub executes_answers : (before after : List Answer) (results : List Res) → after ≡ before ++ answered (m.applied + 1) results m.waiting → results ≡ (executed m.database items).1
+      → after ≡ before ++ (applied_entry n (slice_get n.log n.applied)).answers
+  executes_answers before after results answers made =
+      answers
+      ∙ ap (λ (r : List Res). before ++ answered (m.applied + 1) r m.waiting) made
+      ∙ ap (λ (t : Turn). before ++ t.answers) executes
+
+-- an entry that is applied changes neither the log nor the commit
+pub keeps_commit : (n : Node) (entry : Option LogEntry) → (applied_entry n entry).node.commit ≡ n.commit
+keeps_commit n None = refl
+keeps_commit n (Some entry) = by entry.content
+  where
+    by : (content : Content) → (applied_content n (n.applied + 1) content).node.commit ≡ n.commit
+    by NoOp = refl
+    by (Execute items) = refl
+
+no_end : (log : List LogEntry) (k : ℕ) → k < length log → slice_get log k ≡ None → ⊥
+no_end [] k within is = absurd (omega arith)
+no_end (entry ∷ log) zero within is = absurd (cc)
+no_end (entry ∷ log) (suc k) within is = no_end log k (omega arith) is
+
+-- one entry more is applied, where one may be
+pub counts_one : (n : Node) → n.applied < length n.log → (applied_entry n (slice_get n.log n.applied)).node.applied ≡ n.applied + 1
+counts_one n within = by (slice_get n.log n.applied) refl
+  where
+    of_content : (content : Content) → (applied_content n (n.applied + 1) content).node.applied ≡ n.applied + 1
+    of_content NoOp = refl
+    of_content (Execute items) = refl
+
+    by : (entry : Option LogEntry) → slice_get n.log n.applied ≡ entry → (applied_entry n entry).node.applied ≡ n.applied + 1
+    by None is = absurd (no_end n.log n.applied within is)
+    by (Some entry) is = of_content entry.content
+
+-- nothing is stored where an entry is applied
+stores_nothing : (n : Node) (entry : Option LogEntry) → (applied_entry n entry).durable ≡ []
+stores_nothing n None = refl
+stores_nothing n (Some entry) = by entry.content
+  where
+    by : (content : Content) → (applied_content n (n.applied + 1) content).durable ≡ []
+    by NoOp = refl
+    by (Execute items) = refl
+
+-- a loop that has applied one entry more
+module _ (n next : Node) (less : n.applied < n.commit) (within : n.commit ≤ length n.log) (is : next ≡ (applied_entry n (slice_get n.log n.applied)).node) where
+  commit_is : next.commit ≡ n.commit
+  commit_is = ap (λ (k : Node). k.commit) is ∙ keeps_commit n (slice_get n.log n.applied)
+
+  applied_is : next.applied ≡ n.applied + 1
+  applied_is = ap (λ (k : Node). k.applied) is ∙ counts_one n (omega arith)
+
+  pub falls_by_one : next.commit - next.applied < n.commit - n.applied
+  falls_by_one = let c = commit_is in let a = applied_is in omega arith
+
+  pub times_go_on : (before after : List Answer) (total : Turn) → after ≡ before ++ (applied_entry n (slice_get n.log n.applied)).answers
+      → apply_times (n.commit - n.applied) (record { node = n; durable = []; answers = before }) ≡ total
+      → apply_times (next.commit - next.applied) (record { node = next; durable = []; answers = after }) ≡ total
+  times_go_on before after total answers so_far =
+      let turn = applied_entry n (slice_get n.log n.applied) in
+      let rest : next.commit - next.applied ≡ n.commit - (n.applied + 1) = ap (λ (c : ℕ). c - next.applied) commit_is ∙ ap (λ (a : ℕ). n.commit - a) applied_is in
+      ap (λ (k : ℕ). apply_times k (record { node = next; durable = []; answers = after })) rest
+      ∙ ap (λ (k : Node). apply_times (n.commit - (n.applied + 1)) (record { node = k; durable = []; answers = after })) is
+      ∙ ap (λ (s : List Durable). apply_times (n.commit - (n.applied + 1)) (record { node = turn.node; durable = s; answers = after })) (sym (stores_nothing n (slice_get n.log n.applied)))
+      ∙ ap (λ (l : List Answer). apply_times (n.commit - (n.applied + 1)) (record { node = turn.node; durable = turn.durable; answers = l })) answers
+      ∙ sym (times_next n.applied n.commit (record { node = n; durable = []; answers = before }) less)
+      ∙ so_far
+
+-- the parts of what a list does
+pub first_part : (outcome : Database × List Res) (database : Database) (results : List Res) → outcome ≡ (database, results) → database ≡ outcome.0
+first_part outcome database results is = sym (ap (λ (o : Database × List Res). o.0) is)
+
+pub second_part : (outcome : Database × List Res) (database : Database) (results : List Res) → outcome ≡ (database, results) → results ≡ outcome.1
+second_part outcome database results is = sym (ap (λ (o : Database × List Res). o.1) is)

@@ -1,0 +1,43 @@
+use Rattle.std.proofs.Common.{◌≡◌, ◌*◌, ◌∷◌, ◌∙◌, ℕ, length, Some, Option, refl, sym, ap, subst}
+use Rattle.std.proofs.lemmas.List.{length-map}
+use Rattle.rq_outside.specs.Pair.{arm_of}
+use Rattle.rq_wal.specs.Calls.{IsShort}
+use Rattle.rq_wal.specs.Rules.{AreAllowed}
+use Rattle.rq_wal.specs.Spelling.{piece_of}
+use Rattle.rq_wal.specs.declared.file.WalFile.{WalFile}
+use Rattle.rq_node.specs.Files.{first_base, frame_of, stored_of}
+use Rattle.rq_node.specs.Standing.{HasFile}
+use Rattle.rq_node.proofs.FileSteps.{file_at_rest, file_more, some_stand, device_later}
+use Rattle.rq_node.proofs.node.store.Goals as goal
+
+pub write-requires-clause-at_rest : goal.write-requires-clause-at_rest
+write-requires-clause-at_rest g c κs within = λ tells.
+    c.ready.ensures.at_rest tells
+    (file_at_rest g.D.Disk.told g.D.Disk.means c.args.disks.now c.requires.open.0 c.requires.open.1 c.args.file.now c.in-Some.wal (sym c.take.ensures.value ∙ c.in-Some.is) c.requires.open.2 tells)
+
+pub returns-in-Ok-write-clause-ok : goal.returns-in-Ok-write-clause-ok
+returns-in-Ok-write-clause-ok g c = λ id kept items is allowed has.
+    let told = g.D.Disk.told in
+    let means = g.D.Disk.means in
+    let some : c.args.file.now ≡ Some c.in-Some.wal = sym c.take.ensures.value ∙ c.in-Some.is in
+    file_more told means c.args.disks.now c.write.new.disks c.in-Some.wal c.in-Ok-write.wal id kept items c.args.frames.now is allowed
+    (subst (λ (f : Option WalFile). HasFile told means c.args.disks.now id kept f) some has)
+    (λ tells each current. c.in-Ok-write.ensures.current tells (first_base id) (stored_of id kept) c.args.frames.now c.in-Ok.ensures.batch each (c.ready.ensures.current tells (first_base id) (stored_of id kept) current))
+
+pub returns-in-Err-write-clause-failed : goal.returns-in-Err-write-clause-failed
+returns-in-Err-write-clause-failed g c = λ refused id kept first more is allowed has.
+    let told = g.D.Disk.told in
+    let means = g.D.Disk.means in
+    let some : c.args.file.now ≡ Some c.in-Some.wal = sym c.take.ensures.value ∙ c.in-Some.is in
+    let current = subst (λ (f : Option WalFile). HasFile told means c.args.disks.now id kept f) some has in
+    let size : length c.in-Ok.batch ≡ length (first ∷ more) = ap length c.in-Ok.ensures.batch ∙ length-map c.args.frames.now piece_of ∙ ap length is ∙ length-map (first ∷ more) frame_of in
+    record {
+      first = first;
+      more = more;
+      some = refl;
+      stands = some_stand told means c.write.new.disks id kept (first ∷ more) c.args.frames.now is
+          (λ tells. c.in-Err-write.ensures.some_now tells (first_base id) (stored_of id kept) c.args.frames.now c.in-Ok.ensures.batch (subst (AreAllowed (stored_of id kept)) (sym is) allowed)
+          (c.ready.ensures.current tells (first_base id) (stored_of id kept) (current tells)));
+      cause = device_later means c.args.disks.now c.ready.new.disks c.write.new.disks c.ready.ensures.later c.in-Err-write.ensures.device;
+      struck = λ s. subst (λ (n : ℕ). IsShort (4 * n) (arm_of c.args.disks.now)) size (subst (IsShort (4 * length c.in-Ok.batch)) c.ready.ensures.arm (c.in-Err-write.ensures.struck s));
+    }

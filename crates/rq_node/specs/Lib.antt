@@ -1,0 +1,5 @@
+pub mod Files
+pub mod Node
+pub mod Rules
+pub mod Sound
+pub mod Standing

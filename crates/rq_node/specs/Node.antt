@@ -1,0 +1,62 @@
+-- A node, what it keeps when it stops, and what a rule gives: docs/RAFT.md, "The node".
+use Rattle.std.specs.Prelude.{◌-◌, ℕ, List, [], ◌∷◌, ◌++◌, take, Option}
+use Rattle.rq_engine.specs.Database.{Database}
+use Rattle.rq_node.specs.declared.log_entry.LogEntry.{LogEntry}
+use Rattle.rq_node.specs.declared.role.Role.{Role}
+use Rattle.rq_node.specs.declared.waiting.Waiting.{Waiting}
+use Rattle.rq_engine.specs.declared.say.Say.{Say}
+use Rattle.rq_engine.specs.declared.say.Answer.{Answer}
+
+-- the log counts from index 1: the entry at index i stands behind i - 1 others
+pub record Node : Type 0 where
+  pub id : List ℕ
+  pub term : ℕ
+  pub vote : Option (List ℕ)
+  pub boot : ℕ
+  pub log : List LogEntry
+  pub commit : ℕ
+  pub applied : ℕ
+  pub role : Role
+  pub waiting : List Waiting  -- asks whose entry isn't applied yet, in rising order of indexes
+  pub database : Database  -- the replica: what the applied entries made of an empty database
+
+-- what of a node outlives a stop
+pub record Kept : Type 0 where
+  pub term : ℕ
+  pub vote : Option (List ℕ)
+  pub boot : ℕ
+  pub log : List LogEntry
+
+abbrev pub kept_of : Node → Kept
+kept_of n = record { term = n.term; vote = n.vote; boot = n.boot; log = n.log }
+
+-- what a rule makes durable
+pub data Durable : Type 0 where
+  Vote : (term : ℕ) (vote : Option (List ℕ)) → Durable
+  Splice : (from : ℕ) (entries : List LogEntry) → Durable  -- the log from this index on is these entries
+  Boot : (boot : ℕ) → Durable
+
+-- what is kept with one thing more
+abbrev pub kept_with : Kept → Durable → Kept
+kept_with kept (Vote term vote) = record kept { term = term; vote = vote }
+kept_with kept (Splice from entries) = record kept { log = take (from - 1) kept.log ++ entries }
+kept_with kept (Boot boot) = record kept { boot = boot }
+
+-- and with several, in order
+abbrev pub kept_after : Kept → List Durable → Kept
+kept_after kept [] = kept
+kept_after kept (item ∷ items) = kept_after (kept_with kept item) items
+
+-- the node after a rule, what the rule makes durable, in order, and its answers, in order
+pub record Turn : Type 0 where
+  pub node : Node
+  pub durable : List Durable
+  pub answers : List Answer
+
+-- nothing but the node changes
+abbrev pub quiet : Node → Turn
+quiet n = record { node = n; durable = []; answers = [] }
+
+-- the node only answers
+abbrev pub says : Node → ℕ → Say → Turn
+says n number say = record { node = n; durable = []; answers = record { number = number; say = say } ∷ [] }

@@ -1,0 +1,31 @@
+-- What a node's parts keep.
+use Rattle.std.specs.Prelude.{◌≡◌, ◌≤◌, ℕ, true, List, length, All, ⊤}
+use Rattle.rq_values.specs.Text.{is_text}
+use Rattle.rq_engine.specs.declared.item.Item.{Item}
+use Rattle.rq_engine.specs.Command.{execute_bytes}
+use Rattle.rq_command.specs.Stored.{text_of, IsStored}
+use Rattle.rq_node.specs.declared.log_entry.LogEntry.{LogEntry}
+use Rattle.rq_node.specs.declared.log_entry.Content.{Content}
+use Rattle.rq_node.specs.declared.log_entry.Content.TheVariants.{NoOp, Execute}
+
+-- the most bytes of an entry's command
+abbrev pub most_bytes : ℕ
+most_bytes = 8388608
+
+-- the item's text in the log is read as the item again
+abbrev pub IsReadable : Item → Type 0
+IsReadable item = (is_text (text_of item) ≡ true) × IsStored item
+
+-- what the entry holds is read from the log again
+abbrev pub IsKeptReadable : Content → Type 0
+IsKeptReadable NoOp = ⊤
+IsKeptReadable (Execute items) = All IsReadable items × (length (execute_bytes items) ≤ most_bytes)
+
+abbrev pub AreReadable : List LogEntry → Type 0
+AreReadable log = All (λ (entry : LogEntry). IsKeptReadable entry.content) log
+
+-- what is applied is committed, and what is committed is in the log
+pub record IsSound (log : List LogEntry) (commit applied : ℕ) : Type 0 where
+  pub applied_within : applied ≤ commit
+  pub commit_within : commit ≤ length log
+  pub readable : AreReadable log

@@ -1,0 +1,185 @@
+//! A running node with its log files: docs/RAFT.md.
+ghost use Rattle.std.specs.Prelude.{◌≡◌, ◌⊎◌, ◌<◌, ◌+◌, ◌++◌, ◌∷◌, ◌*◌, ◌^◌, [], List, ℕ, length, map, IsTrue, OnOk, IfOk, IsErrOf, is_some, true};
+ghost use Rattle.rq_outside.specs.Pair.{arm_of, UsedCalls};
+ghost use Rattle.rq_wal.specs.declared.frame.Frame.TheVariants.{Splice};
+ghost use Rattle.rq_outside.specs.declared.pair.Arm.TheVariants.{Struck};
+ghost use Rattle.rq_wal.specs.Calls.{PassesMost};
+ghost use Rattle.rq_wal.specs.Later.{Later, DeviceRose};
+ghost use Rattle.rq_node.specs.declared.turn_error.TurnError.TheVariants.{Disk as DiskFailed, NoMemory as OutOfMemory};
+ghost use Rattle.rq_wal.specs.Rules.{AreAllowed};
+ghost use Rattle.rq_node.specs.Files.{frame_of, stored_of};
+ghost use Rattle.rq_node.specs.Node.{Kept, Durable, kept_after};
+ghost use Rattle.rq_node.specs.Standing.{HasFile, IsBroken};
+
+use crate::log_entry::LogEntry;
+use crate::role::Role;
+use crate::turn_error::TurnError;
+use crate::waiting::Waiting;
+use rq_engine::Tables;
+use rq_outside::{Disk, DiskPair};
+use rq_values::{Id, NoMemory, Seq};
+use rq_wal::{Frame, WalFile};
+use rq_wire::{Body, Entry};
+use std::alloc::Global;
+use std::collections::VecDeque;
+use std::marker::Model;
+
+mod applying;
+mod asking;
+mod electing;
+mod opening;
+
+/// What a running node knows.
+#[derive(Drop)]
+pub struct State {
+    id: Id,
+    term: u64,
+    vote: Option<Id>,
+    boot: u64,
+    log: Vec<LogEntry>,
+    commit: u64,
+    applied: u64,
+    role: Role,
+    waiting: VecDeque<Waiting>,
+    tables: Tables,
+}
+
+impl Model for State {
+    ghost use Rattle.rq_node.specs.Node.{Node};
+    ghost use Rattle.rq_node.specs.Sound.{IsSound};
+
+    ghost Value = { Node };
+
+    ghost view = { λ s. record {
+      id = s.id;
+      term = s.term;
+      vote = s.vote;
+      boot = s.boot;
+      log = s.log.items;
+      commit = s.commit;
+      applied = s.applied;
+      role = s.role;
+      waiting = s.waiting.items;
+      database = s.tables;
+    } };
+
+    ghost invariant = { λ s. IsSound s.log.items s.commit s.applied };
+}
+
+/// A running node and its log file. After a disk has failed the file is gone, and the node is to be opened again.
+#[derive(Drop)]
+pub struct Node {
+    pub state: State,
+    pub file: Option<WalFile>,
+}
+
+impl State {
+    pub fn id(&self) -> &Id
+        ensures { result.now ≡ self.now.id }
+    {
+        &self.id
+    }
+
+    pub fn boot(&self) -> u64
+        ensures { result ≡ self.now.boot }
+    {
+        self.boot
+    }
+
+    pub fn term(&self) -> u64
+        ensures { result ≡ self.now.term }
+    {
+        self.term
+    }
+
+    pub fn role(&self) -> Role
+        ensures { result ≡ self.now.role }
+    {
+        self.role
+    }
+
+    pub fn commit(&self) -> u64
+        ensures { result ≡ self.now.commit }
+    {
+        self.commit
+    }
+
+    pub fn applied(&self) -> u64
+        ensures { result ≡ self.now.applied }
+    {
+        self.applied
+    }
+
+    /// The index of the last entry, 0 where there is none.
+    pub fn last(&self) -> u64
+        ensures { result ≡ length self.now.log }
+    {
+        self.log.len() as u64
+    }
+
+    /// The index of the entry to come. That it isn't below 2^64 counts as want of memory.
+    fn next_index(&self) -> Result<u64, NoMemory>
+        ensures { IfOk result (λ index. index ≡ length self.now.log + 1) }
+    {
+        self.last().checked_add(1).ok_or(NoMemory)
+    }
+
+    /// The asks that wait, in rising order of indexes, in two pieces.
+    pub fn waiting(&self) -> (&[Waiting], &[Waiting])
+        ensures { result.0.now ++ result.1.now ≡ self.now.waiting }
+    {
+        self.waiting.as_slices()
+    }
+}
+
+/// The frame that appends one entry at an index.
+fn splice_of(alloc: Global, index: u64, term: u64, body: Body) -> Result<Frame, NoMemory>
+    ensures frame { IfOk result (λ frame. frame ≡ Splice index (record { term = term; body = body } ∷ [])) }
+    ensures index { index < 2 ^ 64 }
+    ensures term { term < 2 ^ 64 }
+{
+    let mut entries = Seq::new(alloc);
+    entries.push(Entry { term, body })?;
+    Ok(Frame::Splice {
+        from: index,
+        entries,
+    })
+}
+
+/// Makes frames durable, by four changing calls each. After `Disk` there is no file any more; after `NoMemory` nothing
+/// has changed.
+fn store<D: Disk>(
+    file: &mut Option<WalFile>,
+    alloc: Global,
+    disks: &mut DiskPair<D>,
+    frames: &[Frame],
+) -> Result<(), TurnError>
+    requires some { is_some file.old ≡ true }
+    requires open { (id : List ℕ) × (kept : Kept) × HasFile D.told D.means disks.old id kept file.old }
+    ensures ok { OnOk result ((id : List ℕ) (kept : Kept) (items : List Durable) → frames.now ≡ map frame_of items → AreAllowed (stored_of id kept) (map frame_of items) → HasFile D.told D.means disks.old id kept file.old → HasFile D.told D.means disks.new id (kept_after kept items) file.new) }
+    ensures calls { OnOk result (UsedCalls (4 * length frames.now) (arm_of disks.old) (arm_of disks.new)) }
+    ensures failed { IsErrOf result DiskFailed → (id : List ℕ) (kept : Kept) (first : Durable) (more : List Durable) → frames.now ≡ map frame_of (first ∷ more) → AreAllowed (stored_of id kept) (map frame_of (first ∷ more)) → HasFile D.told D.means disks.old id kept file.old → IsBroken D.told D.means disks.old disks.new id kept (first ∷ more) }
+    ensures no_memory { IsErrOf result OutOfMemory → (id : List ℕ) (kept : Kept) → HasFile D.told D.means disks.old id kept file.old → HasFile D.told D.means disks.new id kept file.new }
+    ensures no_memory_arm { IsErrOf result OutOfMemory → arm_of disks.new ≡ arm_of disks.old }
+    ensures cause { IsErrOf result DiskFailed → DeviceRose D.means disks.old disks.new ⊎ (arm_of disks.new ≡ Struck) }
+    ensures most { PassesMost (4 * length frames.now) (arm_of disks.old) (arm_of disks.new) }
+    ensures later { Later D.means disks.old disks.new }
+{
+    let Some(mut wal) = file.take() else {
+        unreachable!()
+    };
+    let batch = match wal.ready(alloc, disks, frames) {
+        Ok(batch) => batch,
+        Err(NoMemory) => {
+            *file = Some(wal);
+            return Err(TurnError::NoMemory);
+        }
+    };
+    match wal.write(disks, batch) {
+        Ok(wal) => {
+            *file = Some(wal);
+            Ok(())
+        }
+        Err(_) => Err(TurnError::Disk),
+    }
+}

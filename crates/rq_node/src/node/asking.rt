@@ -1,0 +1,128 @@
+//! Asks: docs/RAFT.md, "Ask".
+ghost use Rattle.std.specs.Prelude.{◌≡◌, ◌∷◌, ◌≤◌, ◌*◌, [], length, Some, All, IfOk, OnOk, OnErr, IsErrOf, MatchOption, nat_lt};
+ghost use Rattle.rq_outside.specs.Pair.{arm_of, UsedCalls};
+ghost use Rattle.rq_values.specs.Exact.{AreBytes};
+ghost use Rattle.rq_engine.specs.Meaning.{answers};
+ghost use Rattle.rq_engine.specs.Command.{execute_bytes};
+ghost use Rattle.rq_engine.specs.declared.say.Say.TheVariants.{Results};
+ghost use Rattle.rq_wal.specs.Later.{Later};
+ghost use Rattle.rq_node.specs.declared.turn_error.TurnError.TheVariants.{Disk as DiskFailed, NoMemory as OutOfMemory};
+ghost use Rattle.rq_node.specs.Node.{kept_of, says};
+ghost use Rattle.rq_node.specs.Rules.{execute, execute_sized, taken_up};
+ghost use Rattle.rq_node.specs.Sound.{IsReadable, most_bytes};
+ghost use Rattle.rq_node.specs.Standing.{IsOpen, IsBroken};
+
+use super::{Node, State, splice_of, store};
+use crate::log_entry::{Content, LogEntry};
+use crate::role::Role;
+use crate::turn_error::TurnError;
+use crate::waiting::Waiting;
+use rq_engine::{Item, Say, encode_execute};
+use rq_outside::{Disk, DiskPair};
+use rq_values::{Bytes, NoMemory, Seq};
+use rq_wire::Body;
+use std::alloc::Global;
+
+/// The most bytes that the command of an entry may have.
+pub(crate) const MOST_BYTES: usize = 8_388_608;
+
+impl State {
+    /// Answers queries from the node's own database.
+    pub fn query(&self, alloc: Global, items: &[Item]) -> Result<Say, NoMemory>
+        ensures { IfOk result (λ say. say ≡ Results (answers self.now.database items.now)) }
+    {
+        Ok(Say::Results(self.tables.query(alloc, items)?))
+    }
+}
+
+/// The command that runs these items, in bytes.
+fn command_of(alloc: Global, items: &Seq<Item>) -> Result<Vec<u8>, NoMemory>
+    ensures spelled { IfOk result (λ command. command.items ≡ execute_bytes items.now) }
+    ensures bytes { IfOk result (λ command. AreBytes command.items) }
+{
+    let mut command = Vec::new(alloc);
+    encode_execute(items.as_slice(), &mut command)?;
+    are_bytes(command.as_slice());
+    Ok(command)
+}
+
+/// Bytes are below 256.
+fn are_bytes(bytes: &[u8])
+    ensures { AreBytes bytes.now }
+{}
+
+impl Node {
+    /// Appends a list of statements at a leader, to be answered when it is applied; else says why not.
+    pub fn execute<D: Disk>(
+        &mut self,
+        alloc: Global,
+        disks: &mut DiskPair<D>,
+        number: u64,
+        items: Seq<Item>,
+    ) -> Result<Option<Say>, TurnError>
+        requires open { IsOpen D.told D.means disks.old self.old }
+        requires readable { All IsReadable items }
+        ensures said { IfOk result (λ said. MatchOption said (execute self.old.state number items ≡ taken_up self.old.state number items) (λ say. execute self.old.state number items ≡ says self.old.state number say)) }
+        ensures ok { OnOk result (self.new.state ≡ (execute self.old.state number items).node) }
+        ensures open { OnOk result (IsOpen D.told D.means disks.new self.new) }
+        ensures calls { OnOk result (UsedCalls (4 * length (execute self.old.state number items).durable) (arm_of disks.old) (arm_of disks.new)) }
+        ensures failed { IsErrOf result DiskFailed → IsBroken D.told D.means disks.old disks.new self.old.state.id (kept_of self.old.state) (execute self.old.state number items).durable }
+        ensures err { OnErr result (self.new.state ≡ self.old.state) }
+        ensures no_memory { IsErrOf result OutOfMemory → IsOpen D.told D.means disks.new self.new }
+        ensures no_memory_arm { IsErrOf result OutOfMemory → arm_of disks.new ≡ arm_of disks.old }
+        ensures later { Later D.means disks.old disks.new }
+    {
+        let term = self.state.term;
+        if self.state.role != Role::Leader {
+            return Ok(Some(Say::NoLeader { term }));
+        }
+        let command = command_of(alloc, &items)?;
+        if command.len() > MOST_BYTES {
+            return Ok(Some(Say::EntryTooLarge(command.len() as u64)));
+        }
+        self.append(alloc, disks, number, items, Bytes::from_vec(command))?;
+        Ok(None)
+    }
+
+    /// Appends an entry with this list, spelled as these bytes. A leader that is the one voter commits it at once.
+    fn append<D: Disk>(
+        &mut self,
+        alloc: Global,
+        disks: &mut DiskPair<D>,
+        number: u64,
+        items: Seq<Item>,
+        command: Bytes,
+    ) -> Result<(), TurnError>
+        requires open { IsOpen D.told D.means disks.old self.old }
+        requires readable { All IsReadable items }
+        requires spelled { command ≡ execute_bytes items }
+        requires fits { length command ≤ most_bytes }
+        requires bytes { AreBytes command }
+        ensures ok { OnOk result (self.new.state ≡ (taken_up self.old.state number items).node) }
+        ensures open { OnOk result (IsOpen D.told D.means disks.new self.new) }
+        ensures calls { OnOk result (UsedCalls 4 (arm_of disks.old) (arm_of disks.new)) }
+        ensures failed { IsErrOf result DiskFailed → IsBroken D.told D.means disks.old disks.new self.old.state.id (kept_of self.old.state) (taken_up self.old.state number items).durable }
+        ensures err { OnErr result (self.new.state ≡ self.old.state) }
+        ensures no_memory { IsErrOf result OutOfMemory → IsOpen D.told D.means disks.new self.new }
+        ensures no_memory_arm { IsErrOf result OutOfMemory → arm_of disks.new ≡ arm_of disks.old }
+        ensures later { Later D.means disks.old disks.new }
+    {
+        let state = &mut self.state;
+        let index = state.next_index()?;
+        let term = state.term;
+        let splice = splice_of(alloc, index, term, Body::Data(command))?;
+        state.log.reserve(1)?;
+        state.waiting.reserve(1)?;
+        match store(&mut self.file, alloc, disks, &[splice]) {
+            Ok(()) => {}
+            Err(error) => return Err(error),
+        }
+        state.log.push_reserved(LogEntry {
+            term,
+            content: Content::Execute(items),
+        });
+        let _ = state.waiting.push_back(Waiting { index, number });
+        state.commit = index;
+        Ok(())
+    }
+}

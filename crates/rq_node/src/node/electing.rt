@@ -1,0 +1,95 @@
+//! An election: docs/RAFT.md, "Elect".
+ghost use Rattle.std.specs.Prelude.{◌≡◌, ◌<◌, ◌-◌, ◌^◌, ◌*◌, [], length, IsTrue, Some, OnOk, OnErr, IfOk, IsErrOf};
+ghost use Rattle.rq_values.specs.Text.{is_id};
+ghost use Rattle.rq_outside.specs.Pair.{arm_of, UsedCalls};
+ghost use Rattle.rq_wal.specs.declared.frame.Frame.TheVariants.{Vote};
+ghost use Rattle.rq_wal.specs.Later.{Later};
+ghost use Rattle.rq_node.specs.declared.turn_error.TurnError.TheVariants.{Disk as DiskFailed, NoMemory as OutOfMemory};
+ghost use Rattle.rq_node.specs.Node.{kept_of};
+ghost use Rattle.rq_node.specs.Rules.{elect, led};
+ghost use Rattle.rq_node.specs.Standing.{IsOpen, IsBroken};
+
+use super::{Node, splice_of, store};
+use crate::log_entry::{Content, LogEntry};
+use crate::role::Role;
+use crate::turn_error::TurnError;
+use rq_outside::{Disk, DiskPair};
+use rq_values::Id;
+use rq_wal::Frame;
+use rq_wire::Body;
+use std::alloc::Global;
+
+impl Node {
+    /// Stands for the next term, and answers how many things were made durable. The one voter's own vote is a quorum, so it
+    /// leads at once.
+    pub fn elect<D: Disk>(
+        &mut self,
+        alloc: Global,
+        disks: &mut DiskPair<D>,
+    ) -> Result<u64, TurnError>
+        requires open { IsOpen D.told D.means disks.old self.old }
+        ensures ok { OnOk result (self.new.state ≡ (elect self.old.state).node) }
+        ensures count { IfOk result (λ count. count ≡ length (elect self.old.state).durable) }
+        ensures open { OnOk result (IsOpen D.told D.means disks.new self.new) }
+        ensures calls { IfOk result (λ count. UsedCalls (4 * count) (arm_of disks.old) (arm_of disks.new)) }
+        ensures answers { (elect self.old.state).answers ≡ [] }
+        ensures failed { IsErrOf result DiskFailed → IsBroken D.told D.means disks.old disks.new self.old.state.id (kept_of self.old.state) (elect self.old.state).durable }
+        ensures err { OnErr result (self.new.state ≡ self.old.state) }
+        ensures no_memory { IsErrOf result OutOfMemory → IsOpen D.told D.means disks.new self.new }
+        ensures no_memory_arm { IsErrOf result OutOfMemory → arm_of disks.new ≡ arm_of disks.old }
+        ensures later { Later D.means disks.old disks.new }
+    {
+        if self.state.role == Role::Leader || self.state.term == u64::MAX {
+            return Ok(0);
+        }
+        self.lead(alloc, disks)?;
+        Ok(2)
+    }
+
+    /// Goes to the next term, votes for itself, and leads.
+    fn lead<D: Disk>(&mut self, alloc: Global, disks: &mut DiskPair<D>) -> Result<(), TurnError>
+        requires open { IsOpen D.told D.means disks.old self.old }
+        requires term { self.old.state.term < 2 ^ 64 - 1 }
+        ensures ok { OnOk result (self.new.state ≡ (led self.old.state).node) }
+        ensures open { OnOk result (IsOpen D.told D.means disks.new self.new) }
+        ensures calls { OnOk result (UsedCalls 8 (arm_of disks.old) (arm_of disks.new)) }
+        ensures failed { IsErrOf result DiskFailed → IsBroken D.told D.means disks.old disks.new self.old.state.id (kept_of self.old.state) (led self.old.state).durable }
+        ensures err { OnErr result (self.new.state ≡ self.old.state) }
+        ensures no_memory { IsErrOf result OutOfMemory → IsOpen D.told D.means disks.new self.new }
+        ensures no_memory_arm { IsErrOf result OutOfMemory → arm_of disks.new ≡ arm_of disks.old }
+        ensures later { Later D.means disks.old disks.new }
+    {
+        let state = &mut self.state;
+        let term = state.term + 1;
+        let index = state.next_index()?;
+        let vote = vote_for(term, state.id);
+        let splice = splice_of(alloc, index, term, Body::NoOp)?;
+        state.log.reserve(1)?;
+        match store(&mut self.file, alloc, disks, &[vote, splice]) {
+            Ok(()) => {}
+            Err(error) => return Err(error),
+        }
+        state.term = term;
+        state.vote = Some(state.id);
+        state.role = Role::Leader;
+        state.log.push_reserved(LogEntry {
+            term,
+            content: Content::NoOp,
+        });
+        state.commit = index;
+        Ok(())
+    }
+}
+
+/// The frame that votes for a node.
+fn vote_for(term: u64, id: Id) -> Frame
+    ensures frame { result ≡ Vote term (Some id) }
+    ensures term { term < 2 ^ 64 }
+    ensures id { IsTrue (is_id id) }
+{
+    let _name = id.bytes();
+    Frame::Vote {
+        term,
+        vote: Some(id),
+    }
+}

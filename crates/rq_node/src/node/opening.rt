@@ -1,0 +1,280 @@
+//! Starting a node: docs/RAFT.md, "Start".
+ghost use Rattle.std.specs.Prelude.{◌≡◌, ◌⊎◌, ◌≤◌, ◌+◌, ◌++◌, ◌∷◌, ◌^◌, [], List, ℕ, length, map, take, Ok, Some, IsTrue, IfOk, IfErr, OnOk, OnErr, IsErrOf, All};
+ghost use Rattle.rq_values.specs.Text.{is_addr};
+ghost use Rattle.rq_outside.specs.Pair.{arm_of};
+ghost use Rattle.rq_outside.specs.declared.pair.Arm.TheVariants.{Struck};
+ghost use Rattle.rq_wire.specs.declared.entry.Entry.{Entry as TheEntry};
+ghost use Rattle.rq_wal.specs.Calls.{PassesMost};
+ghost use Rattle.rq_wal.specs.Current.{IsCurrent, EachImageGives};
+ghost use Rattle.rq_wal.specs.Later.{Later, DeviceRose};
+ghost use Rattle.rq_wal.specs.declared.error.OpenError.TheVariants as opening;
+ghost use Rattle.rq_node.specs.declared.error.NodeError.TheVariants.{Disk as DiskFailed, NoMemory as OutOfMemory, Ended};
+ghost use Rattle.rq_node.specs.Node.{Kept, Durable, Boot, kept_of, kept_with, kept_after};
+ghost use Rattle.rq_node.specs.declared.log_entry.LogEntry.{LogEntry as TheLogEntry};
+ghost use Rattle.rq_node.specs.declared.log_entry.Content.{Content as TheContent};
+ghost use Rattle.rq_node.specs.declared.log_entry.Content.TheVariants.{Execute};
+ghost use Rattle.rq_command.specs.declared.error.CommandError.TheVariants as commands;
+ghost use Rattle.rq_engine.specs.declared.item.Item.{Item as TheItem};
+ghost use Rattle.rq_engine.specs.Command.{execute_bytes};
+ghost use Rattle.rq_node.specs.Files.{first_base, first_image, body_of, stored_entry, stored_of};
+ghost use Rattle.rq_node.specs.Rules.{started};
+ghost use Rattle.rq_node.specs.Sound.{AreReadable, IsKeptReadable};
+ghost use Rattle.rq_node.specs.Standing.{HasFile, IsOpen, IsSomeOf, Stands, CanBeRead, FailedOpening};
+
+use super::{Node, State, store};
+use crate::error::NodeError;
+use crate::log_entry::{Content, LogEntry};
+use crate::node::asking::MOST_BYTES;
+use crate::role::Role;
+use crate::turn_error::TurnError;
+use rq_command::{CommandError, decode_execute};
+use rq_engine::{Item, Tables};
+use rq_outside::{Disk, DiskPair};
+use rq_values::{Addr, Bytes, Id, NoMemory, Seq, put_bytes, put_u8, put_u32};
+use rq_wal::{Base, Frame, OpenError, Stored, WalFile, current_logs_stand, open};
+use rq_wire::{Body, Config, Entry, Member};
+use std::alloc::Global;
+use std::collections::VecDeque;
+
+/// So often a node may be started.
+const MOST_BOOTS: u64 = 1 << 62;
+
+impl Node {
+    /// Starts the one voter with this id: opens its pair, takes over what stands there, and stores that it has booted once
+    /// more. In a new pair nothing stands: the node boots for the first time.
+    ///
+    /// Refused where a disk fails, where the files leave the format or hold no node's log, where the node was started 2^62
+    /// times, and for want of memory.
+    pub fn open<D: Disk>(alloc: Global, disks: &mut DiskPair<D>, id: Id) -> Result<Node, NodeError>
+        ensures node { IsTrue D.told → (kept : Kept) (items : List Durable) → CanBeRead kept items → Stands D.told D.means disks.old id kept items → IfOk result (λ node. (k : ℕ) × (node.state ≡ (started id (kept_after kept (take k items))).node)) }
+        ensures open { IfOk result (λ node. IsOpen D.told D.means disks.new node) }
+        ensures failed { IsErrOf result DiskFailed → (kept : Kept) (items : List Durable) → CanBeRead kept items → Stands D.told D.means disks.old id kept items → FailedOpening D.told D.means disks.new id kept items }
+        ensures refused { IsTrue D.told → (kept : Kept) (items : List Durable) → CanBeRead kept items → Stands D.told D.means disks.old id kept items → IfErr result (λ e. (e ≡ DiskFailed) ⊎ (Stands D.told D.means disks.new id kept items × ((e ≡ OutOfMemory) ⊎ ((boot : ℕ) × (e ≡ Ended boot))))) }
+        ensures cause { IsErrOf result DiskFailed → DeviceRose D.means disks.old disks.new ⊎ (arm_of disks.new ≡ Struck) }
+        ensures arm { PassesMost 14 (arm_of disks.old) (arm_of disks.new) }
+        ensures later { Later D.means disks.old disks.new }
+    {
+        match open_files(alloc, disks, id) {
+            Ok((wal, stored)) => match started_state(alloc, id, stored) {
+                Ok(state) => store_boot(alloc, disks, wal, state),
+                Err(error) => Err(error),
+            },
+            Err(error) => Err(error),
+        }
+    }
+}
+
+/// Opens the pair of a node with this id, with the refusals of a node.
+fn open_files<D: Disk>(
+    alloc: Global,
+    disks: &mut DiskPair<D>,
+    id: Id,
+) -> Result<(WalFile, Stored), NodeError>
+    ensures current { IfOk result (λ opened. IsTrue D.told → IsCurrent D.means (first_base id) disks.new opened.0 opened.1) }
+    ensures given { IsTrue D.told → (kept : Kept) (items : List Durable) → Stands D.told D.means disks.old id kept items → IfOk result (λ opened. IsSomeOf id kept items (Ok opened.1)) }
+    ensures stands { (kept : Kept) (items : List Durable) → Stands D.told D.means disks.old id kept items → Stands D.told D.means disks.new id kept items }
+    ensures refused { IsTrue D.told → (kept : Kept) (items : List Durable) → Stands D.told D.means disks.old id kept items → IfErr result (λ e. (e ≡ DiskFailed) ⊎ (e ≡ OutOfMemory)) }
+    ensures cause { IsErrOf result DiskFailed → DeviceRose D.means disks.old disks.new ⊎ (arm_of disks.new ≡ Struck) }
+    ensures arm { PassesMost 10 (arm_of disks.old) (arm_of disks.new) }
+    ensures later { Later D.means disks.old disks.new }
+{
+    let first = first_base(alloc, id)?;
+    match open(alloc, disks, &first) {
+        Ok(opened) => Ok(opened),
+        Err(error) => Err(refusal(error)),
+    }
+}
+
+/// The refusal of a node for one of its files.
+fn refusal(error: OpenError) -> NodeError
+    ensures disk { (error ≡ opening.Disk → result ≡ DiskFailed) × (result ≡ DiskFailed → error ≡ opening.Disk) }
+    ensures no_memory { error ≡ opening.NoMemory → result ≡ OutOfMemory }
+{
+    match error {
+        OpenError::Disk => NodeError::Disk,
+        OpenError::NotAWal { file, place, byte } => NodeError::NotAWal { file, place, byte },
+        OpenError::Version(version) => NodeError::Version(version),
+        OpenError::NoMemory => NodeError::NoMemory,
+    }
+}
+
+/// What a node knows when it has booted once more over what was stored.
+fn started_state(alloc: Global, id: Id, stored: Stored) -> Result<State, NodeError>
+    ensures from { IfOk result (λ state. (kept : Kept) × (state ≡ (started id kept).node) × (stored.base ≡ first_base id → stored ≡ stored_of id kept)) }
+    ensures ok { (kept : Kept) → AreReadable kept.log → stored ≡ stored_of id kept → IfOk result (λ state. state ≡ (started id kept).node) }
+    ensures refused { (kept : Kept) → AreReadable kept.log → stored ≡ stored_of id kept → IfErr result (λ e. (e ≡ OutOfMemory) ⊎ ((boot : ℕ) × (e ≡ Ended boot))) }
+    ensures no_disk { IsErrOf result DiskFailed → ⊥ }
+    ensures small { IfOk result (λ state. state.boot ≤ 2 ^ 62) }
+{
+    if stored.boot >= MOST_BOOTS {
+        return Err(NodeError::Ended(stored.boot));
+    }
+    let log = log_of(alloc, stored.entries.as_slice())?;
+    Ok(State {
+        id,
+        term: stored.term,
+        vote: stored.vote,
+        boot: stored.boot + 1,
+        log,
+        commit: 0,
+        applied: 0,
+        role: Role::Follower,
+        waiting: VecDeque::new(alloc),
+        tables: Tables::new(alloc),
+    })
+}
+
+/// Stores the boot of a node that starts over this file.
+fn store_boot<D: Disk>(
+    alloc: Global,
+    disks: &mut DiskPair<D>,
+    wal: WalFile,
+    state: State,
+) -> Result<Node, NodeError>
+    requires small { state.boot ≤ 2 ^ 62 }
+    requires open { (id : List ℕ) × (kept : Kept) × HasFile D.told D.means disks.old id kept (Some wal) }
+    ensures state { IfOk result (λ node. node.state ≡ state) }
+    ensures open { (kept : Kept) → HasFile D.told D.means disks.old state.id kept (Some wal) → kept_with kept (Boot state.boot) ≡ kept_of state → IfOk result (λ node. IsOpen D.told D.means disks.new node) }
+    ensures failed { IsErrOf result DiskFailed → (kept : Kept) → HasFile D.told D.means disks.old state.id kept (Some wal) → Stands D.told D.means disks.new state.id kept (Boot state.boot ∷ []) }
+    ensures no_memory { IsErrOf result OutOfMemory → (kept : Kept) → HasFile D.told D.means disks.old state.id kept (Some wal) → IsTrue D.told → EachImageGives D.means (first_base state.id) disks.new (stored_of state.id kept) }
+    ensures refused { IfErr result (λ e. (e ≡ DiskFailed) ⊎ (e ≡ OutOfMemory)) }
+    ensures cause { IsErrOf result DiskFailed → DeviceRose D.means disks.old disks.new ⊎ (arm_of disks.new ≡ Struck) }
+    ensures arm { PassesMost 4 (arm_of disks.old) (arm_of disks.new) }
+    ensures later { Later D.means disks.old disks.new }
+{
+    current_logs_stand::<D>();
+    let mut file = Some(wal);
+    match store(&mut file, alloc, disks, &[Frame::Boot { boot: state.boot }]) {
+        Ok(()) => Ok(Node { state, file }),
+        Err(TurnError::Disk) => Err(NodeError::Disk),
+        Err(TurnError::NoMemory) => Err(NodeError::NoMemory),
+    }
+}
+
+/// The log that these entries of the file are.
+fn log_of(alloc: Global, entries: &[Entry]) -> Result<Vec<LogEntry>, NodeError>
+    ensures readable { IfOk result (λ log. AreReadable log.items) }
+    ensures spelled { IfOk result (λ log. entries.now ≡ map stored_entry log.items) }
+    ensures no_disk { IsErrOf result DiskFailed → ⊥ }
+    ensures ok { (log : List TheLogEntry) → AreReadable log → entries.now ≡ map stored_entry log → IfOk result (λ found. found.items ≡ log) }
+    ensures refused { (log : List TheLogEntry) → AreReadable log → entries.now ≡ map stored_entry log → IfErr result (λ e. e ≡ OutOfMemory) }
+{
+    let mut log = Vec::new(alloc);
+    for place in 0..entries.len() {
+        match entry_of(alloc, place as u64 + 1, &entries[place]) {
+            Ok(entry) => log.push(entry)?,
+            Err(error) => return Err(error),
+        }
+    }
+    Ok(log)
+}
+
+/// The entry at this index, as the file has it.
+fn entry_of(alloc: Global, index: u64, entry: &Entry) -> Result<LogEntry, NodeError>
+    ensures readable { IfOk result (λ found. IsKeptReadable found.content) }
+    ensures spelled { IfOk result (λ found. entry.now ≡ stored_entry found) }
+    ensures no_disk { IsErrOf result DiskFailed → ⊥ }
+    ensures ok { (kept : TheLogEntry) → IsKeptReadable kept.content → entry.now ≡ stored_entry kept → IfOk result (λ found. found ≡ kept) }
+    ensures refused { (kept : TheLogEntry) → IsKeptReadable kept.content → entry.now ≡ stored_entry kept → IfErr result (λ e. e ≡ OutOfMemory) }
+{
+    let content = content_of(alloc, index, &entry.body)?;
+    Ok(LogEntry {
+        term: entry.term,
+        content,
+    })
+}
+
+/// What the entry at this index holds.
+fn content_of(alloc: Global, index: u64, body: &Body) -> Result<Content, NodeError>
+    ensures readable { IfOk result (λ content. IsKeptReadable content) }
+    ensures spelled { IfOk result (λ content. body.now ≡ body_of content) }
+    ensures no_disk { IsErrOf result DiskFailed → ⊥ }
+    ensures ok { (content : TheContent) → IsKeptReadable content → body.now ≡ body_of content → IfOk result (λ found. found ≡ content) }
+    ensures refused { (content : TheContent) → IsKeptReadable content → body.now ≡ body_of content → IfErr result (λ e. e ≡ OutOfMemory) }
+{
+    match body {
+        Body::NoOp => Ok(Content::NoOp),
+        Body::Config(_) => Err(NodeError::Config { index }),
+        Body::Data(command) => Ok(Content::Execute(list_of(alloc, index, command.bytes())?)),
+    }
+}
+/// The list that a command of the entry at this index runs.
+fn list_of(alloc: Global, index: u64, command: &[u8]) -> Result<Seq<Item>, NodeError>
+    ensures readable { IfOk result (λ items. IsKeptReadable (Execute items)) }
+    ensures spelled { IfOk result (λ items. command.now ≡ execute_bytes items) }
+    ensures no_disk { IsErrOf result DiskFailed → ⊥ }
+    ensures ok { (items : List TheItem) → IsKeptReadable (Execute items) → command.now ≡ execute_bytes items → IfOk result (λ found. found ≡ items) }
+    ensures refused { (items : List TheItem) → IsKeptReadable (Execute items) → command.now ≡ execute_bytes items → IfErr result (λ e. e ≡ OutOfMemory) }
+{
+    if command.len() > MOST_BYTES {
+        let len = u32::try_from(command.len()).unwrap_or(u32::MAX);
+        return Err(NodeError::Command {
+            index,
+            error: CommandError::Long(0, len),
+        });
+    }
+    match decode_execute(alloc, command) {
+        Ok(items) => Ok(items),
+        Err(error) => Err(no_command(index, error)),
+    }
+}
+
+/// The refusal of a node for a command at this index.
+fn no_command(index: u64, error: CommandError) -> NodeError
+    ensures no_disk { result ≡ DiskFailed → ⊥ }
+    ensures no_memory { error ≡ commands.NoMemory → result ≡ OutOfMemory }
+{
+    match error {
+        CommandError::NoMemory => NodeError::NoMemory,
+        error => NodeError::Command { index, error },
+    }
+}
+
+/// The base of a new node: an empty log, and itself as the one voter.
+fn first_base(alloc: Global, id: Id) -> Result<Base, NoMemory>
+    ensures { IfOk result (λ base. base ≡ first_base id) }
+{
+    let name = id.bytes();
+    let http = address(alloc, name, b":4001")?;
+    let raft = address(alloc, name, b":4002")?;
+    let mut members = Seq::new(alloc);
+    members.push(Member {
+        id,
+        voter: true,
+        http,
+        raft,
+    })?;
+    Ok(Base {
+        term: 0,
+        vote: None,
+        boot: 0,
+        index: 0,
+        last_term: 0,
+        config: Config::new(members),
+        state: first_image(alloc, &id)?,
+    })
+}
+
+/// The address of a node at a port.
+fn address(alloc: Global, name: &[u8], port: &[u8]) -> Result<Addr, NoMemory>
+    requires port { IsTrue (is_addr (name.now ++ port.now)) }
+    ensures { IfOk result (λ addr. addr ≡ name.now ++ port.now) }
+{
+    let mut bytes = Vec::new(alloc);
+    bytes.extend_from_slice(name)?;
+    bytes.extend_from_slice(port)?;
+    Ok(Addr::new(alloc, &bytes)?.unwrap())
+}
+
+/// The image of the first state: no tables, no marks, and the id of the one voter.
+fn first_image(alloc: Global, id: &Id) -> Result<Bytes, NoMemory>
+    ensures { IfOk result (λ image. image ≡ first_image id.now) }
+{
+    let mut image = Vec::new(alloc);
+    put_u8(1, &mut image)?;
+    put_u32(0, &mut image)?;
+    put_u32(0, &mut image)?;
+    put_u32(1, &mut image)?;
+    put_bytes(id.bytes(), &mut image)?;
+    Ok(Bytes::from_vec(image))
+}
