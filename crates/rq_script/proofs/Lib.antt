@@ -1,0 +1,5 @@
+mod Digits
+mod Fronts
+mod Histories
+mod Moments
+mod Promises

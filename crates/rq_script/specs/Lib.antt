@@ -1,0 +1,9 @@
+pub mod Cluster
+pub mod History
+pub mod Lines
+pub mod Preparing
+pub mod Promise
+pub mod ReadLine
+pub mod Runs
+pub mod ScriptLine
+pub mod ScriptText

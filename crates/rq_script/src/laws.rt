@@ -1,0 +1,28 @@
+//! What is proved of every run of a script's lines. Each law is the contract of a function that does nothing.
+
+ghost use Rattle.std.specs.Prelude.{◌≡◌, ℕ, List, Some};
+ghost use Rattle.rq_script.specs.Cluster.{Server, Cluster, Steps};
+ghost use Rattle.rq_script.specs.History.{history, node_in};
+ghost use Rattle.rq_script.specs.Lines.{Line, IsWithin};
+ghost use Rattle.rq_script.specs.Promise.{IsKept, Keeps, Grows};
+ghost use Rattle.rq_script.specs.Runs.{Runs};
+
+/// At each moment of a run, a running node's database is the fold of a front of the one log, and each answer that was given is
+/// right: a write has its place in that log, and the answer is its entry's outcome there; a read is answered from the fold of
+/// a front.
+#[tactic(auto, using(crate::proofs::Promises::promised))]
+pub fn each_moment_is_kept()
+    ensures { (lines : List Line) (text : List ℕ) (c : Cluster) (run : Runs lines text c) → Keeps (history run) (node_in c) }
+{}
+
+/// From one moment to the next the one log and the book of what happened only grow.
+#[tactic(auto, using(crate::proofs::Promises::grows))]
+pub fn the_one_log_grows()
+    ensures { (lines : List Line) (text : List ℕ) (c : Cluster) (run : Runs lines text c) (l : Line) (more : List ℕ) (next : Cluster) (within : IsWithin l) (steps : Steps c l.text more next) → Grows (history run) (history (Runs.line l more next run within steps)) }
+{}
+
+/// At each moment of a run, what was chosen stands in the log of the server's node, and of one that is down in what its files
+/// show, however much stands there of what a failing disk broke off.
+pub fn what_was_chosen_is_kept()
+    ensures { (lines : List Line) (text : List ℕ) (c : Cluster) (run : Runs lines text c) (s : Server) → c.server ≡ Some s → IsKept (history run).chosen s.stand }
+{}
