@@ -2,13 +2,13 @@
 use Rattle.std.proofs.Common.{◌≡◌, ◌≢◌, ◌≤◌, ◌<◌, ◌⊎◌, inl, inr, ⊎_elim, ◌+◌, ℕ, suc, List, [], ◌∷◌, ◌++◌, length, nat_eq, true, false, Bool, if◌then◌else◌, refl, sym, ap, subst, ◌∙◌, append_assoc, length-append, arith}
 use Rattle.std.proofs.lemmas.List.{append-nil}
 use Rattle.std.proofs.lemmas.Bool.{cases_eq}
-use Rattle.rq_cluster.specs.World.{World, first_world, Steps, IsOutside}
-use Rattle.rq_cluster.specs.Lines.{Line, drop_cr, lines_by, last_line, lines_of, IsOver}
+use Rattle.rq_script.specs.Cluster.{Cluster, first_cluster, Steps, IsOutside}
+use Rattle.rq_script.specs.Lines.{Line, drop_cr, lines_by, last_line, lines_of, IsOver}
 use Rattle.rq_cluster.specs.Play.{BrokenOff}
-use Rattle.rq_cluster.specs.Runs.{Runs, StopsAt}
+use Rattle.rq_script.specs.Runs.{Runs, StopsAt}
 use Rattle.rq_cluster.specs.Feed.{After, PartOf, IsBetween, HasNoLineEnd}
 
-pub started : After [] [] first_world 1 [] 0
+pub started : After [] [] first_cluster 1 [] 0
 started = record { lines = []; runs = Runs.start; number_is = refl; count_is = refl; cut = λ last rest. refl }
 
 -- the line that ends here
@@ -27,7 +27,7 @@ pub at_last : (last : ℕ → List ℕ → List Line) (at : ℕ) (held : List �
 unfolding lines_by
 at_last last at held = refl
 
-module _ (read text : List ℕ) (w : World) (number : ℕ) (held : List ℕ) (count : ℕ) (s : After read text w number held count) where
+module _ (read text : List ℕ) (w : Cluster) (number : ℕ) (held : List ℕ) (count : ℕ) (s : After read text w number held count) where
   pub byte_held : (byte : ℕ) → byte ≢ 10 → After (read ++ byte ∷ []) text w number (held ++ byte ∷ []) (count + 1)
   byte_held byte other = record {
     lines = s.lines;
@@ -37,7 +37,7 @@ module _ (read text : List ℕ) (w : World) (number : ℕ) (held : List ℕ) (co
     cut = λ last rest. ap (lines_by last 0 []) (append_assoc read (byte ∷ []) rest) ∙ s.cut last (byte ∷ rest) ∙ ap (λ (ls : List Line). s.lines ++ ls) (at_byte last count held byte rest other);
   }
 
-  pub line_done : (more : List ℕ) (next : World) → length (drop_cr held) ≤ 2097152 → count + 1 ≤ 67108864 → Steps w (drop_cr held) more next → After (read ++ 10 ∷ []) (text ++ more) next (number + 1) [] (count + 1)
+  pub line_done : (more : List ℕ) (next : Cluster) → length (drop_cr held) ≤ 2097152 → count + 1 ≤ 67108864 → Steps w (drop_cr held) more next → After (read ++ 10 ∷ []) (text ++ more) next (number + 1) [] (count + 1)
   line_done more next fits within step = record {
     lines = s.lines ++ ended held count ∷ [];
     runs = Runs.line (ended held count) more next s.runs (record { line_fits = fits; script_fits = within }) step;
@@ -59,11 +59,11 @@ module _ (read text : List ℕ) (w : World) (number : ℕ) (held : List ℕ) (co
   pub between : (rest : List ℕ) → IsBetween w (lines_of (read ++ rest)) text
   between rest = (s.lines, lines_by last_line count held rest, s.cut last_line rest, s.runs)
 
-  pub broken_before : (Kept : World → Type 0) (rest : List ℕ) → Kept w → BrokenOff (lines_of (read ++ rest)) Kept text
+  pub broken_before : (Kept : Cluster → Type 0) (rest : List ℕ) → Kept w → BrokenOff (lines_of (read ++ rest)) Kept text
   broken_before Kept rest kept = BrokenOff.before s.lines (lines_by last_line count held rest) text w (s.cut last_line rest) s.runs kept
 
   -- the line that is held is broken off
-  pub line_broken : (Kept : World → Type 0) (rest out : List ℕ) → count + 1 ≤ 67108864 → PartOf Kept w (drop_cr held) out → BrokenOff (lines_of (read ++ 10 ∷ rest)) Kept (text ++ out)
+  pub line_broken : (Kept : Cluster → Type 0) (rest out : List ℕ) → count + 1 ≤ 67108864 → PartOf Kept w (drop_cr held) out → BrokenOff (lines_of (read ++ 10 ∷ rest)) Kept (text ++ out)
   line_broken Kept rest _ far (PartOf.none kept) = subst (BrokenOff (lines_of (read ++ 10 ∷ rest)) Kept) (sym (append-nil text)) (broken_before Kept (10 ∷ rest) kept)
   line_broken Kept rest _ far (PartOf.within reached fits reach kept) = subst (BrokenOff (lines_of (read ++ 10 ∷ rest)) Kept) (sym (append-nil text))
       (BrokenOff.within s.lines (ended held count) (lines_by last_line (count + 1) [] rest) text w reached (s.cut last_line (10 ∷ rest) ∙ ap (λ (ls : List Line). s.lines ++ ls) (at_end last_line count held rest)) s.runs
@@ -103,7 +103,7 @@ first (byte ∷ rest) at held some = ⊎_elim ends (goes (first rest (at + 1) (h
         record { l = f.l; more = f.more; is = at_byte last_line at held byte rest other ∙ f.is; long = omega (arith, f.long, length-append held (byte ∷ [])); far = omega (arith, f.far) }
 
 -- bytes with no LF among them are held
-pub bytes_held : (bytes read text : List ℕ) (w : World) (number : ℕ) (held : List ℕ) (count : ℕ) → After read text w number held count → HasNoLineEnd bytes
+pub bytes_held : (bytes read text : List ℕ) (w : Cluster) (number : ℕ) (held : List ℕ) (count : ℕ) → After read text w number held count → HasNoLineEnd bytes
     → After (read ++ bytes) text w number (held ++ bytes) (count + length bytes)
 bytes_held [] read text w number held count s free =
     let e : count ≡ count + 0 = omega arith in
@@ -117,7 +117,7 @@ bytes_held (byte ∷ bytes) read text w number held count s free =
     (subst (λ (h : List ℕ). After ((read ++ byte ∷ []) ++ bytes) text w number h ((count + 1) + length bytes)) (append_assoc held (byte ∷ []) bytes) on))
 
 -- more bytes than a line may have, or than a script may have
-pub over_out : (bytes rest read text : List ℕ) (w : World) (number : ℕ) (held : List ℕ) (count : ℕ) → After read text w number held count → HasNoLineEnd bytes
+pub over_out : (bytes rest read text : List ℕ) (w : Cluster) (number : ℕ) (held : List ℕ) (count : ℕ) → After read text w number held count → HasNoLineEnd bytes
     → 0 < length held + length bytes → (2097153 < length held + length bytes) ⊎ (67108864 < count + length bytes) → StopsAt (lines_of (read ++ (bytes ++ rest))) number text w
 over_out bytes rest read text w number held count s free some over =
     let size = length-append held bytes in

@@ -1,25 +1,41 @@
 -- In a pair of empty disks no log stands.
-use Rattle.std.proofs.Common.{◌≡◌, [], ◌∷◌, true, refl, ap}
+use Rattle.std.proofs.Common.{◌≡◌, [], ◌∷◌, true, None, refl, ap, ◌∙◌}
 use Rattle.rq_outside.specs.declared.pair.DiskPair.{DiskPair}
 use Rattle.rq_outside.specs.declared.pair.FileNo.TheVariants.{One, Two}
+use Rattle.rq_outside.specs.declared.pair.Arm.TheVariants.{Off}
 use Rattle.rq_outside.specs.declared.fakes.sure_disk.SureDisk.{SureDisk}
-use Rattle.rq_outside.specs.MemDisk.{sure_bytes}
-use Rattle.rq_outside.specs.Pair.{disk_at}
-use Rattle.rq_wal.specs.Replace.{is_open}
+use Rattle.rq_outside.specs.declared.fakes.disk.MemDisk.{MemDisk}
+use Rattle.rq_outside.specs.Disk.{DiskMeaning, Only}
+use Rattle.rq_outside.specs.Pair.{arm_of, disk_at}
+use Rattle.rq_wal.specs.Replace.{in_header, generation_of}
 use Rattle.std.proofs.lemmas.List.Elements.{All-from_recursion}
-use Rattle.rq_cluster.specs.World.{IsNew, AreNew}
-use Rattle.rq_cluster.specs.EmptyPairs.{sure_means}
+use Rattle.rq_cluster.specs.Standing.{IsNew, AreNew}
+use Rattle.rq_cluster.specs.EmptyPairs.{sure_means, mem_means}
 
-pub empty_is_new : {F : Type 0} (pair : DiskPair SureDisk F) → sure_bytes (disk_at pair One) ≡ [] → sure_bytes (disk_at pair Two) ≡ [] → IsNew true sure_means pair
-empty_is_new pair one two One t = ap is_open one
-empty_is_new pair one two Two t = ap is_open two
+empty_is_closed : generation_of [] ≡ None
+unfolding in_header
+empty_is_closed = refl
+
+module _ {D F : Type 0} (means : D → DiskMeaning) where
+  pub new_by : (pair : DiskPair D F) → arm_of pair ≡ Off → Only [] (means (disk_at pair One)).images → Only [] (means (disk_at pair Two)).images → IsNew true means pair
+  new_by pair off one two = record {
+    unarmed = off;
+    closed = λ _ a b image_a image_b. (ap generation_of (one a image_a) ∙ empty_is_closed, ap generation_of (two b image_b) ∙ empty_is_closed);
+  }
+
+pub empty_is_new : {F : Type 0} (pair : DiskPair SureDisk F) → arm_of pair ≡ Off → Only [] (sure_means (disk_at pair One)).images → Only [] (sure_means (disk_at pair Two)).images → IsNew true sure_means pair
+empty_is_new pair off one two = new_by sure_means pair off one two
+
+pub empty_mem_is_new : {F : Type 0} (pair : DiskPair MemDisk F) → arm_of pair ≡ Off → Only [] (mem_means (disk_at pair One)).images → Only [] (mem_means (disk_at pair Two)).images → IsNew true mem_means pair
+empty_mem_is_new pair off one two = new_by mem_means pair off one two
 
 -- nine such pairs
-pub nine : {F : Type 0} (a b c d e f g h i : DiskPair SureDisk F) → IsNew true sure_means a → IsNew true sure_means b → IsNew true sure_means c → IsNew true sure_means d
-    → IsNew true sure_means e → IsNew true sure_means f → IsNew true sure_means g → IsNew true sure_means h → IsNew true sure_means i
-    → AreNew true sure_means (a ∷ b ∷ c ∷ d ∷ e ∷ f ∷ g ∷ h ∷ i ∷ [])
-nine {F} a b c d e f g h i a' b' c' d' e' f' g' h' i' = record {
-  count = refl;
-  fresh = All-from_recursion (λ (pair : DiskPair SureDisk F). IsNew true sure_means pair) (a ∷ b ∷ c ∷ d ∷ e ∷ f ∷ g ∷ h ∷ i ∷ [])
-      (a', (b', (c', (d', (e', (f', (g', (h', (i', tt)))))))));
-}
+module _ {D F : Type 0} (means : D → DiskMeaning) where
+  pub nine : (a b c d e f g h i : DiskPair D F) → IsNew true means a → IsNew true means b → IsNew true means c → IsNew true means d
+      → IsNew true means e → IsNew true means f → IsNew true means g → IsNew true means h → IsNew true means i
+      → AreNew true means (a ∷ b ∷ c ∷ d ∷ e ∷ f ∷ g ∷ h ∷ i ∷ [])
+  nine a b c d e f g h i a' b' c' d' e' f' g' h' i' = record {
+    count = refl;
+    fresh = All-from_recursion (λ (pair : DiskPair D F). IsNew true means pair) (a ∷ b ∷ c ∷ d ∷ e ∷ f ∷ g ∷ h ∷ i ∷ [])
+        (a', (b', (c', (d', (e', (f', (g', (h', (i', tt)))))))));
+  }

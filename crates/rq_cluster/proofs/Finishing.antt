@@ -2,21 +2,21 @@
 use Rattle.std.proofs.Common.{◌≡◌, ◌≤◌, ◌<◌, ◌⊎◌, inl, inr, ⊎_elim, ◌+◌, ℕ, List, [], ◌∷◌, ◌++◌, length, Bool, refl, sym, ap, subst, ◌∙◌, append_assoc, length-append, arith}
 use Rattle.std.specs.Prelude.{⊤}
 use Rattle.std.proofs.lemmas.List.{append-nil}
-use Rattle.rq_cluster.specs.World.{World, Steps, IsOutside}
-use Rattle.rq_cluster.specs.Lines.{Line, lines_by, last_line, lines_of, whole_lines}
+use Rattle.rq_script.specs.Cluster.{Cluster, Steps, IsOutside}
+use Rattle.rq_script.specs.Lines.{Line, lines_by, last_line, lines_of, whole_lines}
 use Rattle.rq_cluster.specs.LastLines.{LastLine}
 use Rattle.rq_cluster.specs.Play.{Took, Ends, BrokenOff, Reached, Wrote}
-use Rattle.rq_cluster.specs.Runs.{Runs, StopsAt}
+use Rattle.rq_script.specs.Runs.{Runs, StopsAt}
 use Rattle.rq_cluster.specs.Feed.{After, PartOf, AtEnd}
 use Rattle.rq_cluster.proofs.Cutting.{at_last}
-use Rattle.rq_cluster.proofs.Readings.{Readable}
+use Rattle.rq_cluster.proofs.Alike.{Readable}
 use Rattle.rq_cluster.proofs.Whole.{cut_of, cut_short}
 
 last_is : (count : ℕ) (held : List ℕ) → 0 < length held → last_line count held ≡ record { text = held; upto = count } ∷ []
 last_is count [] some = absurd (omega (arith, some))
 last_is count (byte ∷ bytes) some = refl
 
-module _ (read text : List ℕ) (w : World) (number : ℕ) (held : List ℕ) (count : ℕ) (s : After read text w number held count) where
+module _ (read text : List ℕ) (w : Cluster) (number : ℕ) (held : List ℕ) (count : ℕ) (s : After read text w number held count) where
   all_lines : (last : ℕ → List ℕ → List Line) → lines_by last 0 [] read ≡ s.lines ++ last count held
   all_lines last = ap (lines_by last 0 []) (sym (append-nil read)) ∙ s.cut last [] ∙ ap (λ (ls : List Line). s.lines ++ ls) (at_last last count held)
 
@@ -34,7 +34,7 @@ module _ (read text : List ℕ) (w : World) (number : ℕ) (held : List ℕ) (co
   some_lines : 0 < length held → lines_of read ≡ s.lines ++ record { text = held; upto = count } ∷ []
   some_lines some = all_lines last_line ∙ ap (λ (ls : List Line). s.lines ++ ls) (last_is count held some)
 
-  pub end_some : (more : List ℕ) (next : World) → 0 < length held → count ≤ 67108864 → length held ≤ 2097152 → Steps w held more next → AtEnd (lines_of read) (text ++ more) next (number + 1)
+  pub end_some : (more : List ℕ) (next : Cluster) → 0 < length held → count ≤ 67108864 → length held ≤ 2097152 → Steps w held more next → AtEnd (lines_of read) (text ++ more) next (number + 1)
   end_some more next some within fits step = record {
     runs = subst (λ (ls : List Line). Runs ls (text ++ more) next) (sym (some_lines some)) (Runs.line (record { text = held; upto = count }) more next s.runs (record { line_fits = fits; script_fits = within }) step);
     number_is = omega (arith, s.number_is, ap length (some_lines some), length-append s.lines (record { text = held; upto = count } ∷ []));
@@ -44,7 +44,7 @@ module _ (read text : List ℕ) (w : World) (number : ℕ) (held : List ℕ) (co
   out_some some out = subst (λ (n : ℕ). StopsAt (lines_of read) n text w) (sym s.number_is)
       (StopsAt.at_line s.lines (record { text = held; upto = count }) [] text w (some_lines some) s.runs (⊎_elim (λ long. inl (inl long)) (λ o. inr o) out))
 
-  pub part_some : (Kept : World → Type 0) (out : List ℕ) → 0 < length held → count ≤ 67108864 → PartOf Kept w held out → BrokenOff (lines_of read) Kept (text ++ out)
+  pub part_some : (Kept : Cluster → Type 0) (out : List ℕ) → 0 < length held → count ≤ 67108864 → PartOf Kept w held out → BrokenOff (lines_of read) Kept (text ++ out)
   part_some Kept _ some far (PartOf.none kept) = subst (BrokenOff (lines_of read) Kept) (sym (append-nil text)) (BrokenOff.before s.lines (last_line count held) text w (all_lines last_line) s.runs kept)
   part_some Kept _ some far (PartOf.within reached fits reach kept) = subst (BrokenOff (lines_of read) Kept) (sym (append-nil text))
       (BrokenOff.within s.lines (record { text = held; upto = count }) [] text w reached (some_lines some) s.runs (record { line_fits = fits; script_fits = far }) reach kept)
@@ -55,12 +55,12 @@ pub map_took : (told : Bool) (t0 t1 : List ℕ) (A B : List ℕ → Type 0) → 
 map_took told t0 t1 A B f (out, took, a) = (out, took, f out a)
 
 -- whatever the files keep
-any_files : (bytes left : List ℕ) (Failed : Type 0) (Kept : World → Type 0) (status : ℕ) (text last : List ℕ) → Ends bytes left Failed Kept status text last → Ends bytes left Failed (λ _. ⊤) status text last
+any_files : (bytes left : List ℕ) (Failed : Type 0) (Kept : Cluster → Type 0) (status : ℕ) (text last : List ℕ) → Ends bytes left Failed Kept status text last → Ends bytes left Failed (λ _. ⊤) status text last
 any_files bytes left Failed Kept _ _ _ (Ends.done text w runs begun kept) = Ends.done text w runs begun tt
 any_files bytes left Failed Kept _ _ _ (Ends.outside n text w stops kept) = Ends.outside n text w stops tt
 any_files bytes left Failed Kept _ _ _ (Ends.fault read text w failed is runs kept) = Ends.fault read text w failed is runs tt
 
-module _ (bytes left : List ℕ) (Failed : Type 0) (Kept : World → Type 0) where
+module _ (bytes left : List ℕ) (Failed : Type 0) (Kept : Cluster → Type 0) where
   -- a last line behind the text of the lines done
   pub with_last : (status : ℕ) (line text : List ℕ) (r : ℕ) (out : List ℕ) → Ends bytes left Failed Kept status text line → LastLine status line r out → Wrote bytes left Failed Kept r (text ++ out)
   with_last status line text _ _ ends LastLine.whole = Wrote.all status text line ends
@@ -85,16 +85,16 @@ module _ (bytes left : List ℕ) (Failed : Type 0) (Kept : World → Type 0) whe
   cut_memory readable out broken = Wrote.memory out (cut_short readable bytes left Failed out (cut_of (lines_of bytes) Kept out broken)) (Reached.in_lines out broken)
 
 -- without a fault of the source
-wider_ends : (bytes left : List ℕ) (Failed : Type 0) (Kept : World → Type 0) (status : ℕ) (text last : List ℕ) → Ends bytes [] ⊥ Kept status text last → Ends bytes left Failed Kept status text last
+wider_ends : (bytes left : List ℕ) (Failed : Type 0) (Kept : Cluster → Type 0) (status : ℕ) (text last : List ℕ) → Ends bytes [] ⊥ Kept status text last → Ends bytes left Failed Kept status text last
 wider_ends bytes left Failed Kept _ _ _ (Ends.done text w runs begun kept) = Ends.done text w runs begun kept
 wider_ends bytes left Failed Kept _ _ _ (Ends.outside n text w stops kept) = Ends.outside n text w stops kept
 wider_ends bytes left Failed Kept _ _ _ (Ends.fault read text w failed is runs kept) = absurd failed
 
-wider_reached : (bytes left : List ℕ) (Failed : Type 0) (Kept : World → Type 0) (out : List ℕ) → Reached bytes [] ⊥ Kept out → Reached bytes left Failed Kept out
+wider_reached : (bytes left : List ℕ) (Failed : Type 0) (Kept : Cluster → Type 0) (out : List ℕ) → Reached bytes [] ⊥ Kept out → Reached bytes left Failed Kept out
 wider_reached bytes left Failed Kept _ (Reached.in_lines out broken) = Reached.in_lines out broken
 wider_reached bytes left Failed Kept _ (Reached.in_last status text last front ends pre) = Reached.in_last status text last front (wider_ends bytes left Failed Kept status text last ends) pre
 
-pub wider : (bytes left : List ℕ) (Failed : Type 0) (Kept : World → Type 0) (status : ℕ) (out : List ℕ) → Wrote bytes [] ⊥ Kept status out → Wrote bytes left Failed Kept status out
+pub wider : (bytes left : List ℕ) (Failed : Type 0) (Kept : Cluster → Type 0) (status : ℕ) (out : List ℕ) → Wrote bytes [] ⊥ Kept status out → Wrote bytes left Failed Kept status out
 wider bytes left Failed Kept _ _ (Wrote.all status text last ends) = Wrote.all status text last (wider_ends bytes left Failed Kept status text last ends)
 wider bytes left Failed Kept _ _ (Wrote.sink out (k, text, last, ends, pre) reached) = Wrote.sink out (k, text, last, wider_ends bytes left Failed (λ _. ⊤) k text last ends, pre) (wider_reached bytes left Failed Kept out reached)
 wider bytes left Failed Kept _ _ (Wrote.memory out (k, text, last, ends, pre) reached) = Wrote.memory out (k, text, last, wider_ends bytes left Failed (λ _. ⊤) k text last ends, pre) (wider_reached bytes left Failed Kept out reached)

@@ -1,6 +1,6 @@
 -- Fronts of lists.
 use Rattle.std.proofs.Common.{◌≡◌, ◌≢◌, ◌+◌, ℕ, zero, suc, List, [], ◌∷◌, ◌++◌, take, drop, get_or, length, nat_eq, true, false, refl, sym, ap, ◌∙◌, arith}
-use Rattle.rq_cluster.specs.Lines.{drop_cr}
+use Rattle.rq_script.specs.Lines.{drop_cr}
 
 pub take_none : (n : ℕ) → take {A = ℕ} n [] ≡ []
 take_none zero = refl

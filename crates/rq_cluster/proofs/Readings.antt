@@ -1,11 +1,18 @@
 -- Statements that are read.
-use Rattle.std.proofs.Common.{◌≡◌, ◌<◌, ◌+◌, ℕ, List, [], ◌∷◌, ◌++◌, length, take, get_or, Option, Some, refl, sym, ◌∙◌, ap, subst, arith}
-use Rattle.std.specs.Prelude.{⊤}
+use Rattle.std.proofs.Common.{◌≡◌, ◌<◌, ◌+◌, ℕ, List, [], ◌∷◌, ◌++◌, length, take, get_or, true, Option, Some, refl, sym, ◌∙◌, ap, subst, arith}
+use Rattle.std.specs.Prelude.{⊤, All}
+use Rattle.std.proofs.lemmas.List.Elements.{All-push}
 use Rattle.std.proofs.lemmas.List.{take_more}
+use Rattle.rq_values.specs.Text.{is_text}
 use Rattle.rq_engine.specs.declared.item.Item.{Item}
+use Rattle.rq_engine.specs.declared.item.Item.TheVariants.{Run, Fail}
+use Rattle.rq_engine.specs.declared.statement.Statement.{Statement}
+use Rattle.rq_engine.specs.Canonical.{canonical}
+use Rattle.rq_command.specs.Stored.{text_of}
+use Rattle.rq_node.specs.Sound.{IsReadable}
 use Rattle.rq_json.specs.Body.{texts_of}
 use Rattle.rq_settle.specs.Prepared.{IsPrepared}
-use Rattle.rq_cluster.specs.Preparing.{listed, AreRead}
+use Rattle.rq_script.specs.Preparing.{listed, AreRead}
 
 pub none_read : AreRead [] []
 none_read = tt
@@ -23,6 +30,9 @@ one_more_read texts items at text item within is all one =
     (ap (λ (t : List ℕ). take at texts ++ t ∷ []) is ∙ sym (take_more texts at text within))
     (read_on (take at texts) items text item all one)
 
+pub one_more_readable : (items : List Item) (item : Item) → All IsReadable items → IsReadable item → All IsReadable (items ++ item ∷ [])
+one_more_readable items item all one = All-push IsReadable items item all one
+
 pub are_read : (body : List ℕ) (texts : List (List ℕ)) (items : List Item) → texts_of body ≡ Some texts → AreRead texts items → AreRead (listed (texts_of body)) items
 are_read body texts items lists read = subst (λ (o : Option (List (List ℕ))). AreRead (listed o) items) (sym lists) read
 
@@ -33,3 +43,11 @@ Readable = (text : List ℕ) → (item : Item) × IsPrepared text item
 pub some_items : Readable → (texts : List (List ℕ)) → (items : List Item) × AreRead texts items
 some_items readable [] = ([], tt)
 some_items readable (text ∷ texts) = let one = readable text in let rest = some_items readable texts in (one.0 ∷ rest.0, (one.1, rest.1))
+
+-- a statement's canonical text is prepared as the statement again
+abbrev pub Again : Type 0
+Again = (text : List ℕ) (statement : Statement) → IsPrepared text (Run statement) → IsPrepared (canonical statement) (Run statement)
+
+pub readable_item : Again → (text : List ℕ) (item : Item) → IsPrepared text item → is_text (text_of item) ≡ true → IsReadable item
+readable_item again text (Run statement) prepared is = (is, again text statement prepared)
+readable_item again text (Fail error) prepared is = (is, tt)

@@ -1,24 +1,23 @@
--- Lines at the server that the code holds.
-use Rattle.std.proofs.Common.{◌≡◌, ℕ, ◌+◌, List, [], ◌∷◌, length, Bool, true, false, not, bytes_eq, Option, Some, None, option_and_then, refl, sym, ◌∙◌, ap, subst}
-use Rattle.std.specs.Prelude.{is_some, SomeIff, MatchOption, OnOk, Result, Ok, Err}
-use Rattle.std.proofs.lemmas.List.{append-nil}
+-- Lines at the server of a cluster.
+use Rattle.std.proofs.Common.{◌≡◌, ◌⊎◌, inl, inr, ◌+◌, if◌then◌else◌, ℕ, Bool, true, false, not, List, [], ◌∷◌, ◌++◌, Option, Some, None, is_some, option_and_then, bytes_eq, refl, sym, ◌∙◌, ap, subst}
+use Rattle.std.specs.Prelude.{SomeIff, MatchOption}
 use Rattle.std.specs.Option.{option_map}
+use Rattle.std.proofs.lemmas.List.{append-nil}
 use Rattle.rq_outside.specs.declared.pair.DiskPair.{DiskPair}
 use Rattle.rq_outside.specs.Disk.{DiskMeaning}
 use Rattle.rq_engine.specs.declared.item.Item.{Item}
 use Rattle.rq_json.specs.Body.{texts_of}
+use Rattle.rq_node.specs.Node.{Node, Kept, Durable, Turn}
+use Rattle.rq_node.specs.Rules.{elect, execute, query, apply}
+use Rattle.rq_script.specs.Cluster.{Stand, Running, Down, Server, Cluster, Course, Written, at_server, event_at, ask_at, named, done, happens_at, stops, arms, starts, shown, whole}
+use Rattle.rq_script.specs.Preparing.{listed, statements, AreRead}
+use Rattle.rq_script.specs.ScriptLine.{Line, Skip, Elect, Apply, Execute, Query, Stop, StopWithin, Start, Show}
+use Rattle.rq_cluster.specs.Acting.{Act, event, start as start_act, stop as stop_act, arm as arm_act}
 use Rattle.rq_cluster.specs.declared.host.Host.{Host}
-use Rattle.rq_cluster.specs.Node.{Node, Turn}
-use Rattle.rq_cluster.specs.Cluster.{Server, Cluster, Course, event_at, ask_at, first_server, done}
-use Rattle.rq_cluster.specs.Preparing.{listed, statements, AreRead}
-use Rattle.rq_cluster.specs.ScriptLine.{Line, Skip, Cluster as ClusterLine}
-use Rattle.rq_cluster.specs.Hosting.{server_of, file_of, event, Goes, BreaksOff}
-use Rattle.rq_cluster.specs.World.{World, Leads, Breaks, IsNew, ServerKept, PairKept}
-use Rattle.rq_cluster.proofs.Readings.{are_read}
-use Rattle.rq_cluster.proofs.Worlds.{event_does, ask_does, leads_by, breaks_by, breaks_nothing, breaks_start}
-
-abbrev pub cluster_of : Option Host → ℕ → Cluster
-cluster_of host asks = record { server = option_map server_of host; asks = asks }
+use Rattle.rq_cluster.specs.declared.world.World.{World}
+use Rattle.rq_cluster.specs.Shown.{ShowsServer, ShowsHost, ShowsCluster, Goes, BreaksOff, Leads, DoesLine, BreaksLine}
+use Rattle.rq_cluster.specs.Standing.{ServerStands}
+use Rattle.rq_cluster.proofs.Turns.{node_shown, down_shown}
 
 unnot : (b : Bool) → false ≡ not b → b ≡ true
 unnot true is = refl
@@ -27,82 +26,179 @@ unnot false is = absurd (cc)
 pub same_id : (id there given : List ℕ) → false ≡ not (bytes_eq there given) → there ≡ id → bytes_eq id given ≡ true
 same_id id there given is same = ap (λ (l : List ℕ). bytes_eq l given) (sym same) ∙ unnot (bytes_eq there given) is
 
-module _ (host : Option Host) (asks : ℕ) (c : Cluster) (h : Host) (seen : cluster_of host asks ≡ c) (is : host ≡ Some h) where
-  here : (P : Cluster → Type 0) → P (cluster_of (Some h) asks) → P c
-  here P holds = subst P seen (subst (λ (o : Option Host). P (cluster_of o asks)) (sym is) holds)
+some_of : {T : Type 0} (o : Option T) → is_some o ≡ true → (x : T) × (o ≡ Some x)
+some_of None is = absurd (cc)
+some_of (Some x) is = (x, refl)
 
-  -- an event that asks nothing
-  pub event_leads : (id : List ℕ) (rule : Node → Turn) (line : Line) (after : Host) (before text : List ℕ)
-      → ((course : Course) (d : Cluster) → done [] course d line ≡ event_at course d id rule []) → AreRead (statements line) []
-      → bytes_eq h.id id ≡ true → Goes (event (server_of h) rule []) before text (server_of after)
-      → Leads c line before text (cluster_of (Some after) asks)
-  event_leads id rule line after before text is_event read same goes =
-      here (λ d. Leads d line before text (cluster_of (Some after) asks))
-      (leads_by (cluster_of (Some h) asks) (cluster_of (Some h) asks) (server_of after) (event (server_of h) rule []) line [] before text read
-      (λ course. is_event course (cluster_of (Some h) asks) ∙ event_does course (cluster_of (Some h) asks) (server_of h) id rule [] refl same) goes)
-
-  -- an ask
-  pub ask_leads : (id body : List ℕ) (texts : List (List ℕ)) (rule : ℕ → List Item → Node → Turn) (line : Line) (items : List Item) (number : ℕ) (after : Host) (before text : List ℕ)
-      → ((course : Course) (d : Cluster) → done items course d line ≡ ask_at course d id rule items body) → statements line ≡ listed (texts_of body)
-      → texts_of body ≡ Some texts → AreRead texts items → number ≡ asks + 1
-      → bytes_eq h.id id ≡ true → Goes (event (server_of h) (rule number items) (number ∷ [])) before text (server_of after)
-      → Leads c line before text (cluster_of (Some after) number)
-  ask_leads id body texts rule line items number after before text is_ask stated lists count counts same goes =
-      subst (λ (n : ℕ). Goes (event (server_of h) (rule n items) (n ∷ [])) before text (server_of after) → Leads c line before text (cluster_of (Some after) n)) (sym counts)
-      (λ gone. here (λ d. Leads d line before text (cluster_of (Some after) (asks + 1)))
-      (leads_by (cluster_of (Some h) asks) (cluster_of (Some h) (asks + 1)) (server_of after) (event (server_of h) (rule (asks + 1) items) ((asks + 1) ∷ [])) line items before text
-      (subst (λ (l : List (List ℕ)). AreRead l items) (sym stated) (are_read body texts items lists count))
-      (λ course. is_ask course (cluster_of (Some h) asks) ∙ ask_does course (cluster_of (Some h) asks) (server_of h) id body texts rule items lists refl same) gone))
-      goes
-
-  module _ {D F : Type 0} (told : Bool) (means : D → DiskMeaning) where
-    pub event_breaks : (pair : DiskPair D F) (id : List ℕ) (rule : Node → Turn) (line : Line)
-        → ((course : Course) (d : Cluster) → done [] course d line ≡ event_at course d id rule []) → AreRead (statements line) []
-        → bytes_eq h.id id ≡ true → BreaksOff told means pair (event (server_of h) rule []) (server_of h)
-        → Breaks told means pair c line
-    event_breaks pair id rule line is_event read same broken =
-        here (λ d. Breaks told means pair d line)
-        (breaks_by told means pair (cluster_of (Some h) asks) (cluster_of (Some h) asks) (server_of h) (event (server_of h) rule []) line [] read
-        (λ course. is_event course (cluster_of (Some h) asks) ∙ event_does course (cluster_of (Some h) asks) (server_of h) id rule [] refl same) refl broken)
-
-    pub ask_breaks : (pair : DiskPair D F) (id body : List ℕ) (texts : List (List ℕ)) (rule : ℕ → List Item → Node → Turn) (line : Line) (items : List Item) (number : ℕ)
-        → ((course : Course) (d : Cluster) → done items course d line ≡ ask_at course d id rule items body) → statements line ≡ listed (texts_of body)
-        → texts_of body ≡ Some texts → AreRead texts items → number ≡ asks + 1
-        → bytes_eq h.id id ≡ true → BreaksOff told means pair (event (server_of h) (rule number items) (number ∷ [])) (server_of h)
-        → Breaks told means pair c line
-    ask_breaks pair id body texts rule line items number is_ask stated lists count counts same broken =
-        here (λ d. Breaks told means pair d line)
-        (breaks_by told means pair (cluster_of (Some h) asks) (cluster_of (Some h) (asks + 1)) (server_of h) (event (server_of h) (rule (asks + 1) items) ((asks + 1) ∷ [])) line items
-        (subst (λ (l : List (List ℕ)). AreRead l items) (sym stated) (are_read body texts items lists count))
-        (λ course. is_ask course (cluster_of (Some h) asks) ∙ ask_does course (cluster_of (Some h) asks) (server_of h) id body texts rule items lists refl same) refl
-        (subst (λ (n : ℕ). BreaksOff told means pair (event (server_of h) (rule n items) (n ∷ [])) (server_of h)) counts broken))
-
--- nothing was touched
-pub breaks_untouched : {D F : Type 0} (told : Bool) (means : D → DiskMeaning) (old new : DiskPair D F) (w : World) (line : Line) → new ≡ old → PairKept told means old w → Breaks told means new w.cluster line
-breaks_untouched told means old new w line same kept = subst (λ p. Breaks told means p w.cluster line) (sym same) (breaks_nothing told means old w line kept)
-
-none_of : {T : Type 0} (o : Option T) → false ≡ is_some o → o ≡ None
+pub none_of : {T : Type 0} (o : Option T) → is_some o ≡ false → o ≡ None
 none_of None is = refl
 none_of (Some x) is = absurd (cc)
 
--- the cluster line, where no server is there yet
-module _ (host : Option Host) (asks : ℕ) (w : World) (seen : record { cluster = cluster_of host asks; file = option_and_then file_of host } ≡ w) (is : false ≡ is_some host) where
-  none_there : w.cluster.server ≡ None
-  none_there = ap (λ (v : World). v.cluster.server) (sym seen) ∙ ap (option_map server_of) (none_of host is)
+-- ---- at the server that is there
 
-  pub found_leads : (id : List ℕ) (after : Host) (before text : List ℕ) → Goes (first_server id) before text (server_of after)
-      → Leads w.cluster (ClusterLine id) before text (cluster_of (Some after) asks)
-  found_leads id after before text goes =
-      subst (λ (v : World). Leads v.cluster (ClusterLine id) before text (cluster_of (Some after) asks)) seen
-      (subst (λ (o : Option Host). Leads (cluster_of o asks) (ClusterLine id) before text (cluster_of (Some after) asks)) (sym (none_of host is))
-      (leads_by (cluster_of None asks) (cluster_of None asks) (server_of after) (first_server id) (ClusterLine id) [] before text tt (λ course. refl) goes))
+at_is : (c : Cluster) (s : Server) (id : List ℕ) (act : Server → Option (Server × List ℕ)) (t : Server × List ℕ) → c.server ≡ Some s → bytes_eq s.id id ≡ true → act s ≡ Some t
+    → at_server c id act ≡ Some (record c { server = Some t.0 }, t.1)
+at_is c s id act t is same acts =
+    let F : Server × List ℕ → Written = λ u. (record c { server = Some u.0 }, u.1) in
+    ap (λ (o : Option Server). at_server (record c { server = o }) id act) is
+    ∙ ap (λ (b : Bool). if b then option_map F (act s) else None) same
+    ∙ ap (option_map F) acts
 
-  module _ {D F : Type 0} (told : Bool) (means : D → DiskMeaning) where
-    pub found_new : (pair : DiskPair D F) → PairKept told means pair w → IsNew told means pair
-    found_new pair kept = subst (λ (o : Option Server). ServerKept told means pair o w.file) none_there kept
+event_is : (course : Course) (c : Cluster) (s : Server) (id : List ℕ) (rule : Node → Turn) (asked : List ℕ) → c.server ≡ Some s → bytes_eq s.id id ≡ true
+    → event_at course c id rule asked ≡ Some (record c { server = Some (event rule asked course s).0 }, (event rule asked course s).1)
+event_is course c s id rule asked is same = at_is c s id (λ t. Some (happens_at course t rule asked)) (happens_at course s rule asked) is same refl
 
-    pub found_breaks : (pair : DiskPair D F) (id : List ℕ) → Breaks told means pair w.cluster (ClusterLine id)
-    found_breaks pair id = breaks_start told means pair w.cluster id none_there
+-- an ask whose body lists statements
+ask_is : (course : Course) (c : Cluster) (s : Server) (id body : List ℕ) (texts : List (List ℕ)) (rule : ℕ → List Item → Node → Turn) (items : List Item)
+    → texts_of body ≡ Some texts → c.server ≡ Some s → bytes_eq s.id id ≡ true
+    → ask_at course c id rule items body
+    ≡ Some (record c { server = Some (event (rule (c.asks + 1) items) ((c.asks + 1) ∷ []) course s).0; asks = c.asks + 1 }, (event (rule (c.asks + 1) items) ((c.asks + 1) ∷ []) course s).1)
+ask_is course c s id body texts rule items lists is same =
+    ap (option_and_then (λ (t : List (List ℕ)). event_at course (record c { asks = c.asks + 1 }) id (rule (c.asks + 1) items) ((c.asks + 1) ∷ []))) lists
+    ∙ event_is course (record c { asks = c.asks + 1 }) s id (rule (c.asks + 1) items) ((c.asks + 1) ∷ []) is same
+
+stop_is : (course : Course) (s : Server) (n : Node) → s.stand ≡ Running n → stops s ≡ Some (stop_act course s)
+stop_is course s n is = ap (λ (st : Stand). stops (record s { stand = st })) is ∙ sym (ap (λ (st : Stand). Some (stop_act course (record s { stand = st }))) is)
+
+arm_is : (calls pick : ℕ) (course : Course) (s : Server) (n : Node) → s.stand ≡ Running n → arms calls pick s ≡ Some (arm_act calls pick course s)
+arm_is calls pick course s n is =
+    ap (λ (st : Stand). arms calls pick (record s { stand = st })) is ∙ sym (ap (λ (st : Stand). Some (arm_act calls pick course (record s { stand = st }))) is)
+
+start_is : (course : Course) (s : Server) (kept : Kept) (rest : List Durable) → s.stand ≡ Down kept rest → starts course s ≡ Some (start_act course s)
+start_is course s kept rest is =
+    ap (λ (st : Stand). starts course (record s { stand = st })) is ∙ sym (ap (λ (st : Stand). Some (start_act course (record s { stand = st }))) is)
+
+-- the server is printed
+abbrev pub show_act : Act
+show_act course s = (s, shown s.id s.stand)
+
+abbrev same_asks : ℕ → ℕ
+same_asks k = k
+
+abbrev next_ask : ℕ → ℕ
+next_ask k = k + 1
+
+module _ {D F : Type 0} (told : Bool) (means : D → DiskMeaning) where
+  -- the server that the world's host shows
+  record IsServer (start pair : DiskPair D F) (host : Host) (c : Cluster) : Type 0 where
+    s : Server
+    there : c.server ≡ Some s
+    shows : ShowsServer told means start pair host s
+
+  server_shown : (start pair : DiskPair D F) (world : World) (host : Host) (c : Cluster) → world.host ≡ Some host → ShowsCluster told means start pair world c → IsServer start pair host c
+  server_shown start pair world host c is shown = by c.server refl (subst (λ (o : Option Host). ShowsHost told means start pair o c.server) is shown.1)
+    where
+      by : (o : Option Server) → c.server ≡ o → ShowsHost told means start pair (Some host) o → IsServer start pair host c
+      by (Some s) there shows = record { s = s; there = there; shows = shows }
+      by None there nothing = absurd nothing
+
+  -- the line does this at the server of the host
+  pub record IsDone (line : Line) (act : Act) (items : List Item) (asks : ℕ → ℕ) (old : DiskPair D F) (from : World) (host : Host) : Type 0 where
+    pub read : AreRead (statements line) items
+    pub does : (start : DiskPair D F) (c : Cluster) (s : Server) (course : Course) → c.server ≡ Some s → ShowsServer told means start old host s → c.asks ≡ from.asks
+        → done items course c line ≡ Some (record c { server = Some (act course s).0; asks = asks c.asks }, (act course s).1)
+
+  module _ (line : Line) (act : Act) (items : List Item) (asks : ℕ → ℕ) (old new : DiskPair D F) (from : World) (host : Host)
+      (d : IsDone line act items asks old from host) (is : from.host ≡ Some host) where
+    pub line_does : (to : World) (after : Host) (before text : List ℕ) → to.host ≡ Some after → to.asks ≡ asks from.asks → Goes told means act old new host after before text
+        → DoesLine told means line old new from to before text
+    line_does to after before text there counts goes start c shown =
+        let server = server_shown start old from host c is shown in
+        let went = goes start server.s server.shows in
+        let next : Cluster = record c { server = Some (act went.0 server.s).0; asks = asks c.asks } in (
+          next,
+          (act went.0 server.s).1,
+          (items, went.0, d.read, d.does start c server.s went.0 server.there server.shows shown.0),
+          went.2,
+          (ap asks shown.0 ∙ sym counts, subst (λ (o : Option Host). ShowsHost told means start new o (Some (act went.0 server.s).0)) (sym there) went.1),
+        )
+
+    pub line_breaks : BreaksOff told means act old new host → BreaksLine told means line old new from
+    line_breaks off start c shown =
+        let server = server_shown start old from host c is shown in
+        let broke = off start server.s server.shows in
+        by server broke.0 broke.1 broke.2
+      where
+        by : (server : IsServer start old host c) (reached : Server) → ((reached ≡ server.s) ⊎ ((course : Course) × (reached ≡ (act course server.s).0))) → ServerStands told means start new (Some reached)
+            → (reached : Cluster) × ((reached ≡ c) ⊎ (named c line ≡ Some reached) ⊎ ((written : List ℕ) × Leads c line written reached)) × ServerStands told means start new reached.server
+        by server reached (inl same) stands =
+            (c, inl refl, subst (λ (o : Option Server). ServerStands told means start new o) (ap (λ (r : Server). Some r) same ∙ sym server.there) stands)
+        by server reached (inr (course, goes)) stands = (
+          record c { server = Some (act course server.s).0; asks = asks c.asks },
+          inr (inr ((act course server.s).1, (items, course, d.read, d.does start c server.s course server.there server.shows shown.0))),
+          subst (λ (r : Server). ServerStands told means start new (Some r)) goes stands,
+        )
+
+  -- ---- each line
+
+  module _ (old : DiskPair D F) (from : World) (host : Host) (id : List ℕ) (same : bytes_eq host.id id ≡ true) where
+    this : (start : DiskPair D F) (s : Server) → ShowsServer told means start old host s → bytes_eq s.id id ≡ true
+    this start s shows = ap (λ (i : List ℕ). bytes_eq i id) shows.id ∙ same
+
+    pub elect_done : IsDone (Elect id) (event elect []) [] same_asks old from host
+    elect_done = record { read = tt; does = λ start c s course there shows asks. event_is course c s id elect [] there (this start s shows) }
+
+    pub apply_done : IsDone (Apply id) (event apply []) [] same_asks old from host
+    apply_done = record { read = tt; does = λ start c s course there shows asks. event_is course c s id apply [] there (this start s shows) }
+
+    pub show_done : IsDone (Show id) show_act [] same_asks old from host
+    show_done = record { read = tt; does = λ start c s course there shows asks. at_is c s id (λ t. Some (t, shown t.id t.stand)) (show_act course s) there (this start s shows) refl }
+
+    pub stop_done : is_some host.node ≡ true → IsDone (Stop id) stop_act [] same_asks old from host
+    stop_done running = record {
+      read = tt;
+      does = λ start c s course there shows asks.
+          let node = some_of host.node running in
+          let at = node_shown told means start old host s shows node.0 node.1 in
+          at_is c s id stops (stop_act course s) there (this start s shows) (stop_is course s at.n at.stand);
+    }
+
+    pub arm_done : (calls pick : ℕ) → is_some host.node ≡ true → IsDone (StopWithin id calls pick) (arm_act calls pick) [] same_asks old from host
+    arm_done calls pick running = record {
+      read = tt;
+      does = λ start c s course there shows asks.
+          let node = some_of host.node running in
+          let at = node_shown told means start old host s shows node.0 node.1 in
+          at_is c s id (arms calls pick) (arm_act calls pick course s) there (this start s shows) (arm_is calls pick course s at.n at.stand);
+    }
+
+    pub start_done : is_some host.node ≡ false → IsDone (Start id) start_act [] same_asks old from host
+    start_done down = record {
+      read = tt;
+      does = λ start c s course there shows asks.
+          let at = down_shown told means start old host s shows (none_of host.node down) in
+          at_is c s id (starts course) (start_act course s) there (this start s shows) (start_is course s at.kept at.rest at.stand);
+    }
+
+    module _ (body : List ℕ) (texts : List (List ℕ)) (items : List Item) (number : ℕ) (lists : texts_of body ≡ Some texts) (read : AreRead texts items) (counts : number ≡ from.asks + 1) where
+      ask_read : AreRead (listed (texts_of body)) items
+      ask_read = subst (λ (o : Option (List (List ℕ))). AreRead (listed o) items) (sym lists) read
+
+      ask_does : (rule : ℕ → List Item → Node → Turn) (start : DiskPair D F) (c : Cluster) (s : Server) (course : Course) → c.server ≡ Some s → ShowsServer told means start old host s → c.asks ≡ from.asks
+          → ask_at course c id rule items body ≡ Some (record c { server = Some (event (rule number items) (number ∷ []) course s).0; asks = c.asks + 1 }, (event (rule number items) (number ∷ []) course s).1)
+      ask_does rule start c s course there shows asks =
+          subst (λ (k : ℕ). ask_at course c id rule items body ≡ Some (record c { server = Some (event (rule k items) (k ∷ []) course s).0; asks = c.asks + 1 }, (event (rule k items) (k ∷ []) course s).1))
+          (ap (λ (k : ℕ). k + 1) asks ∙ sym counts) (ask_is course c s id body texts rule items lists there (this start s shows))
+
+      pub execute_done : IsDone (Execute id body) (event (λ n. execute n number items) (number ∷ [])) items next_ask old from host
+      execute_done = record { read = ask_read; does = ask_does (λ number read n. execute n number read) }
+
+      pub query_done : IsDone (Query id body) (event (λ n. query n number items) (number ∷ [])) items next_ask old from host
+      query_done = record { read = ask_read; does = ask_does (λ number read n. query n number read) }
+
+  -- a line that is skipped
+  pub skips : (pair : DiskPair D F) (world : World) (line : Line) (text : List ℕ) → line ≡ Skip → DoesLine told means line pair pair world world text text
+  skips pair world line text is =
+      subst (λ (l : Line). DoesLine told means l pair pair world world text text) (sym is)
+      (λ start c shown. (c, [], ([], whole, tt, refl), sym (append-nil text), shown))
+
+  -- what writes nothing writes nothing behind any text
+  pub writes_nothing : (line : Line) (old new : DiskPair D F) (from to : World) (text : List ℕ) → DoesLine told means line old new from to [] [] → DoesLine told means line old new from to text text
+  writes_nothing line old new from to text does start c shown =
+      let d = does start c shown in
+      (d.0, d.1, d.2, sym (append-nil text) ∙ ap (λ (w : List ℕ). text ++ w) d.3, d.4)
+
+-- ---- what the parts of the code give
 
 pub the_some : {T : Type 0} (o : Option T) (x v : T) (P : Type 0) → o ≡ Some x → SomeIff o P v → x ≡ v
 the_some {T} o x v P is iff = (subst (λ (p : Option T). SomeIff p P v) is iff).1
@@ -112,11 +208,3 @@ of_some {T} o x P Q is matches = subst (λ (p : Option T). MatchOption p P Q) is
 
 pub of_none : {T : Type 0} (o : Option T) (P : Type 0) (Q : T → Type 0) → o ≡ None → MatchOption o P Q → P
 of_none {T} o P Q is matches = subst (λ (p : Option T). MatchOption p P Q) is matches
-
--- a line that is skipped
-pub skips : (c : Cluster) (line : Line) (text : List ℕ) → line ≡ Skip → Leads c line text text c
-skips c line text is = subst (λ (l : Line). Leads c l text text c) (sym is) ([], Course.Whole, [], tt, refl, sym (append-nil text))
-
-pub on_ok_map : {T E : Type 0} (r : Result T E) (P Q : Type 0) → (P → Q) → OnOk r P → OnOk r Q
-on_ok_map (Ok x) P Q f holds = f holds
-on_ok_map (Err e) P Q f holds = tt

@@ -1,12 +1,12 @@
 -- Every script has a whole text.
 use Rattle.std.proofs.Common.{◌≡◌, ◌≤◌, ◌<◌, ◌⊎◌, inl, inr, ⊎_elim, ◌+◌, ℕ, List, [], ◌∷◌, ◌++◌, length, sym, ap, subst, ◌∙◌, append_assoc, arith}
 use Rattle.std.proofs.lemmas.List.{append-nil}
-use Rattle.rq_cluster.specs.World.{World, Steps, IsOutside, IsStarted, ending}
-use Rattle.rq_cluster.specs.Lines.{Line, lines_of, IsOver, IsWithin}
+use Rattle.rq_script.specs.Cluster.{Cluster, Steps, IsOutside, IsStarted, ending}
+use Rattle.rq_script.specs.Lines.{Line, lines_of, IsOver, IsWithin}
 use Rattle.rq_cluster.specs.LastLines.{stopped_line, IsPrefix}
 use Rattle.rq_cluster.specs.Play.{Ends, CutShort, BrokenOff}
-use Rattle.rq_cluster.specs.Runs.{Runs, StopsAt}
-use Rattle.rq_cluster.proofs.Readings.{Readable}
+use Rattle.rq_script.specs.Runs.{Runs, StopsAt}
+use Rattle.rq_cluster.proofs.Alike.{Readable}
 use Rattle.rq_cluster.proofs.WorldLaws.{stepped, started_or_not}
 
 within : (l : Line) → IsOver l ⊎ IsWithin l
@@ -19,10 +19,10 @@ within l = ⊎_elim
     cut a b = grind arith
 
 abbrev Goal : List Line → List ℕ → Type 0
-Goal all text = ((out : List ℕ) × (last : World) × Runs all (text ++ out) last × IsStarted last) ⊎ ((n : ℕ) × (out : List ℕ) × (w : World) × StopsAt all n (text ++ out) w)
+Goal all text = ((out : List ℕ) × (last : Cluster) × Runs all (text ++ out) last × IsStarted last) ⊎ ((n : ℕ) × (out : List ℕ) × (w : Cluster) × StopsAt all n (text ++ out) w)
 
 -- after some of the lines there is a whole text that goes on from theirs
-pub goes_on : Readable → (all more lines : List Line) (text : List ℕ) (w : World) → all ≡ lines ++ more → Runs lines text w
+pub goes_on : Readable → (all more lines : List Line) (text : List ℕ) (w : Cluster) → all ≡ lines ++ more → Runs lines text w
     → Goal all text
 goes_on readable all [] lines text w is runs = at (started_or_not w)
   where
@@ -46,17 +46,17 @@ goes_on readable all (l ∷ more) lines text w is runs = ⊎_elim over (fits (λ
         (λ f. inr (f.0, t ++ f.1, f.2, subst (λ (x : List ℕ). StopsAt all f.0 x f.2) (append_assoc text t f.1) f.3))
         found
 
-    fits : ((next_text : List ℕ) (next : World) → all ≡ (lines ++ l ∷ []) ++ more → Runs (lines ++ l ∷ []) next_text next → Goal all next_text) → IsWithin l → Goal all text
+    fits : ((next_text : List ℕ) (next : Cluster) → all ≡ (lines ++ l ∷ []) ++ more → Runs (lines ++ l ∷ []) next_text next → Goal all next_text) → IsWithin l → Goal all text
     fits on ok = ⊎_elim
-        (λ (s : (t : List ℕ) × (next : World) × Steps w l.text t next). again s.0 (on (text ++ s.0) s.1 (is ∙ sym (append_assoc lines (l ∷ []) more)) (Runs.line l s.0 s.1 runs ok s.2)))
+        (λ (s : (t : List ℕ) × (next : Cluster) × Steps w l.text t next). again s.0 (on (text ++ s.0) s.1 (is ∙ sym (append_assoc lines (l ∷ []) more)) (Runs.line l s.0 s.1 runs ok s.2)))
         (λ (out : IsOutside w l.text). stop (inr out))
         (stepped readable w l.text)
 
 -- a front of the text of a run of some of the lines
 abbrev pub IsCut : List Line → List ℕ → Type 0
-IsCut all out = (lines more : List Line) × (text : List ℕ) × (w : World) × (all ≡ lines ++ more) × Runs lines text w × IsPrefix out text
+IsCut all out = (lines more : List Line) × (text : List ℕ) × (w : Cluster) × (all ≡ lines ++ more) × Runs lines text w × IsPrefix out text
 
-pub cut_of : (all : List Line) (Kept : World → Type 0) (out : List ℕ) → BrokenOff all Kept out → IsCut all out
+pub cut_of : (all : List Line) (Kept : Cluster → Type 0) (out : List ℕ) → BrokenOff all Kept out → IsCut all out
 cut_of all Kept _ (BrokenOff.before lines more text w is runs kept) = (lines, more, text, w, is, runs, ([], append-nil text))
 cut_of all Kept _ (BrokenOff.within lines l more text w reached is runs ok reach kept) = (lines, l ∷ more, text, w, is, runs, ([], append-nil text))
 cut_of all Kept _ (BrokenOff.writing lines l more text w front said next is runs ok step pre kept) =

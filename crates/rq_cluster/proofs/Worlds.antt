@@ -1,171 +1,229 @@
--- Lines at the cluster of a script.
-use Rattle.std.proofs.Common.{◌≡◌, inl, inr, ℕ, suc, ◌+◌, List, [], ◌∷◌, ◌++◌, length, Bool, true, false, bytes_eq, if◌then◌else◌, Option, Some, None, option_and_then, refl, sym, ◌∙◌, ap, subst}
+-- A cluster that is founded, and what the bytes of a line do.
+use Rattle.std.proofs.Common.{◌≡◌, ◌⊎◌, inl, inr, ◌<◌, ℕ, zero, suc, Bool, IsTrue, List, [], ◌∷◌, ◌++◌, length, slice_get, Option, Some, None, Result, Ok, option_and_then, refl, sym, ◌∙◌, ap, subst, arith}
+use Rattle.std.specs.Prelude.{OnOk, Err}
+use Rattle.std.proofs.Math.ListN.{set}
+use Rattle.std.proofs.lemmas.List.{length-set}
+use Rattle.std.proofs.lemmas.List.Elements.{All-nil}
 use Rattle.rq_outside.specs.declared.pair.DiskPair.{DiskPair}
+use Rattle.rq_outside.specs.declared.pair.Arm.TheVariants.{Off, Struck}
 use Rattle.rq_outside.specs.Disk.{DiskMeaning}
 use Rattle.rq_engine.specs.declared.item.Item.{Item}
-use Rattle.rq_json.specs.Body.{texts_of}
-use Rattle.rq_cluster.specs.Node.{Node, Turn}
-use Rattle.rq_cluster.specs.Rules.{execute, query}
-use Rattle.rq_cluster.specs.Cluster.{Server, Cluster, Course, Whole, Written, event_at, ask_at, founded, first_server, done, step, Steps, IsOutside}
-use Rattle.rq_cluster.specs.Preparing.{listed, statements, statements_in, AreRead}
-use Rattle.rq_cluster.specs.ScriptLine.{Line, Skip, Cluster as ClusterLine, Elect, Apply, Execute, Query, line_of}
-use Rattle.rq_cluster.specs.Hosting.{Event, event, Goes, IsKept, stored_at, BreaksOff}
-use Rattle.rq_cluster.proofs.Readings.{Readable, some_items}
-use Rattle.rq_cluster.specs.World.{World, MayReach, Leads, ServerKept, PairKept, Breaks}
+use Rattle.rq_wal.specs.declared.base.Base.{Base}
+use Rattle.rq_wal.specs.Current.{AreClosed}
+use Rattle.rq_wal.specs.Reading.{pair_gives, by_generations}
+use Rattle.rq_wal.specs.Replace.{generation_of}
+use Rattle.rq_wal.specs.Stored.{started}
+use Rattle.rq_node.specs.declared.log_entry.LogEntry.{LogEntry}
+use Rattle.rq_node.specs.declared.node.Node.{Node as RunningNode}
+use Rattle.rq_node.specs.Files.{first_base, first_kept}
+use Rattle.rq_node.specs.Sound.{IsKeptReadable}
+use Rattle.rq_node.specs.Standing.{Stands, IsItemReadable}
+use Rattle.rq_script.specs.Cluster.{Down, Server, Cluster, Course, whole, new_server, founded, named, done, step, Steps, MayReach, IsOutside}
+use Rattle.rq_script.specs.Preparing.{statements_in, AreRead}
+use Rattle.rq_script.specs.ScriptLine.{Line, Cluster as ClusterLine, line_of}
+use Rattle.rq_cluster.specs.Acting.{start as start_act}
+use Rattle.rq_cluster.specs.declared.host.Host.{Host}
+use Rattle.rq_cluster.specs.declared.world.World.{World}
+use Rattle.rq_cluster.specs.Shown.{ShowsServer, ShowsStand, ShowsHost, ShowsCluster, Goes, BreaksOff, Leads, DoesLine, BreaksLine, IsOutsideHere, Does, Breaks, Shows, armed_of}
+use Rattle.rq_cluster.specs.Standing.{IsNew, Rises, ServerStands, Holds}
 
--- an event at the server that is there
-pub event_does : (course : Course) (c : Cluster) (s : Server) (id : List ℕ) (rule : Node → Turn) (asked : List ℕ) → c.server ≡ Some s → bytes_eq s.id id ≡ true
-    → event_at course c id rule asked ≡ Some (record c { server = Some (event s rule asked course).0 }, (event s rule asked course).1)
-event_does course c s id rule asked is same =
-    ap (λ (o : Option Server). event_at course (record c { server = o }) id rule asked) is
-    ∙ ap (λ (b : Bool). if b then Some (record c { server = Some (event s rule asked course).0 }, (event s rule asked course).1) else None) same
+-- two closed files stand for the first base
+closed_gives : (first : Base) (one two : List ℕ) → AreClosed one two → pair_gives first one two ≡ Ok (started first)
+unfolding pair_gives
+closed_gives first one two (closed_one, closed_two) =
+    ap (λ (g : Option ℕ). by_generations first g (generation_of two) one two) closed_one
+    ∙ ap (λ (g : Option ℕ). by_generations first None g one two) closed_two
 
-pub event_other : (course : Course) (c : Cluster) (s : Server) (id : List ℕ) (rule : Node → Turn) (asked : List ℕ) → c.server ≡ Some s → bytes_eq s.id id ≡ false
-    → event_at course c id rule asked ≡ None
-event_other course c s id rule asked is other =
-    ap (λ (o : Option Server). event_at course (record c { server = o }) id rule asked) is
-    ∙ ap (λ (b : Bool). if b then Some (record c { server = Some (event s rule asked course).0 }, (event s rule asked course).1) else None) other
+-- a host that is new
+pub record IsFresh (host : Host) (id : List ℕ) : Type 0 where
+  pub is_id : host.id ≡ id
+  pub node : host.node ≡ None
+  pub armed : host.armed ≡ None
+  pub lost : host.lost.items ≡ []
+  pub failures : host.failures ≡ 0
 
-pub event_none : (course : Course) (c : Cluster) (id : List ℕ) (rule : Node → Turn) (asked : List ℕ) → c.server ≡ None → event_at course c id rule asked ≡ None
-event_none course c id rule asked is = ap (λ (o : Option Server). event_at course (record c { server = o }) id rule asked) is
-
--- an ask whose body lists statements
-pub ask_does : (course : Course) (c : Cluster) (s : Server) (id body : List ℕ) (texts : List (List ℕ)) (rule : ℕ → List Item → Node → Turn) (items : List Item)
-    → texts_of body ≡ Some texts → c.server ≡ Some s → bytes_eq s.id id ≡ true
-    → ask_at course c id rule items body
-    ≡ Some (record c { server = Some (event s (rule (c.asks + 1) items) ((c.asks + 1) ∷ []) course).0; asks = c.asks + 1 }, (event s (rule (c.asks + 1) items) ((c.asks + 1) ∷ []) course).1)
-ask_does course c s id body texts rule items lists is same =
-    ap (option_and_then (λ (t : List (List ℕ)). event_at course (record c { asks = c.asks + 1 }) id (rule (c.asks + 1) items) ((c.asks + 1) ∷ []))) lists
-    ∙ event_does course (record c { asks = c.asks + 1 }) s id (rule (c.asks + 1) items) ((c.asks + 1) ∷ []) is same
-
-pub ask_not_listed : (course : Course) (c : Cluster) (id body : List ℕ) (rule : ℕ → List Item → Node → Turn) (items : List Item) → texts_of body ≡ None
-    → ask_at course c id rule items body ≡ None
-ask_not_listed course c id body rule items lists =
-    ap (option_and_then (λ (t : List (List ℕ)). event_at course (record c { asks = c.asks + 1 }) id (rule (c.asks + 1) items) ((c.asks + 1) ∷ []))) lists
-
--- an event where no server of this id is there, whatever the body lists
-pub ask_elsewhere : (course : Course) (c : Cluster) (id body : List ℕ) (rule : ℕ → List Item → Node → Turn) (items : List Item)
-    → event_at course (record c { asks = c.asks + 1 }) id (rule (c.asks + 1) items) ((c.asks + 1) ∷ []) ≡ None
-    → ask_at course c id rule items body ≡ None
-ask_elsewhere course c id body rule items none = by (texts_of body)
-  where
-    by : (o : Option (List (List ℕ))) → option_and_then (λ (t : List (List ℕ)). event_at course (record c { asks = c.asks + 1 }) id (rule (c.asks + 1) items) ((c.asks + 1) ∷ [])) o ≡ None
-    by None = refl
-    by (Some texts) = none
-
-pub leads_by : (c next : Cluster) (after : Server) (e : Event) (line : Line) (items : List Item) (before text : List ℕ)
-    → AreRead (statements line) items → ((course : Course) → done items course c line ≡ Some (record next { server = Some (e course).0 }, (e course).1))
-    → Goes e before text after → Leads c line before text (record next { server = Some after })
-leads_by c next after e line items before text read does (course, is, was) =
-    (items, course, (e course).1, read, does course ∙ ap (λ (s : Server). Some (record next { server = Some s }, (e course).1)) (sym is), was)
+founds : (course : Course) (c : Cluster) (id : List ℕ) → c.server ≡ None
+    → founded course c id ≡ Some (record c { server = Some (start_act course (new_server id)).0 }, (start_act course (new_server id)).1)
+founds course c id none = ap (λ (o : Option Server). founded course (record c { server = o }) id) none
 
 module _ {D F : Type 0} (told : Bool) (means : D → DiskMeaning) where
-  pub breaks_by : (pair : DiskPair D F) (c next : Cluster) (s : Server) (e : Event) (line : Line) (items : List Item)
-      → AreRead (statements line) items → ((course : Course) → done items course c line ≡ Some (record next { server = Some (e course).0 }, (e course).1))
-      → c.server ≡ Some s → BreaksOff told means pair e s → Breaks told means pair c line
-  breaks_by pair c next s e line items read does is (reached, file, inl same, kept) = (
-    record { cluster = c; file = file },
-    inl refl,
-    subst (λ (o : Option Server). ServerKept told means pair o file) (sym is) (subst (λ (r : Server). IsKept told means pair (stored_at r) file) same kept),
-  )
-  breaks_by pair c next s e line items read does is (reached, file, inr (course, goes), kept) = (
-    record { cluster = record next { server = Some reached }; file = file },
-    inr (items, course, (e course).1, read, does course ∙ ap (λ (r : Server). Some (record next { server = Some r }, (e course).1)) (sym goes)),
-    kept,
-  )
+  new_shows : (start pair : DiskPair D F) (host : Host) (id : List ℕ) → IsTrue told → IsNew told means pair → Rises told means 0 start pair → IsFresh host id
+      → ShowsServer told means start pair host (new_server id)
+  new_shows start pair host id tells new rises h = record {
+    tells = tells;
+    id = sym h.is_id;
+    lost = sym h.lost;
+    failures = sym h.failures;
+    armed = sym (ap armed_of h.armed);
+    arm = λ struck. (let e : Off ≡ Struck = sym new.unarmed ∙ struck in absurd (cc));
+    rises = rises;
+    stand = subst (λ (o : Option RunningNode). ShowsStand told means pair id o (Down first_kept [])) (sym h.node)
+        (stands, (All-nil (λ (entry : LogEntry). IsKeptReadable entry.content), All-nil IsItemReadable));
+    spent = λ _. refl;
+  }
+    where
+      stands : Stands told means pair id first_kept []
+      stands t one two in_one in_two = (0, closed_gives (first_base id) one two (new.closed t one two in_one in_two))
 
-  pub breaks_nothing : (pair : DiskPair D F) (w : World) (line : Line) → PairKept told means pair w → Breaks told means pair w.cluster line
-  breaks_nothing pair w line kept = (w, inl refl, kept)
+  no_server : (start pair : DiskPair D F) (world : World) (c : Cluster) → world.host ≡ None → ShowsCluster told means start pair world c
+      → (c.server ≡ None) × IsTrue told × IsNew told means pair × Rises told means 0 start pair
+  no_server start pair world c is shown = by c.server refl (subst (λ (o : Option Host). ShowsHost told means start pair o c.server) is shown.1)
+    where
+      by : (o : Option Server) → c.server ≡ o → ShowsHost told means start pair None o → (c.server ≡ None) × IsTrue told × IsNew told means pair × Rises told means 0 start pair
+      by None there (tells, new, rises) = (there, tells, new, rises)
+      by (Some s) there nothing = absurd nothing
 
-  -- want of memory broke off a start
-  pub breaks_start : (pair : DiskPair D F) (c : Cluster) (id : List ℕ) → c.server ≡ None → Breaks told means pair c (ClusterLine id)
-  breaks_start pair c id none = (
-    record { cluster = record c { server = Some (first_server id Course.Broken).0 }; file = None },
-    inr ([], Course.Broken, (first_server id Course.Broken).1, tt, ap (λ (o : Option Server). founded Course.Broken (record c { server = o }) id) none),
-    refl,
-  )
+  -- ---- the cluster line
+
+  module _ (old new : DiskPair D F) (from : World) (host : Host) (id : List ℕ) (is : from.host ≡ None) (h : IsFresh host id) where
+    pub found_does : (to : World) (after : Host) (before text : List ℕ) → to.host ≡ Some after → to.asks ≡ from.asks → Goes told means start_act old new host after before text
+        → DoesLine told means (ClusterLine id) old new from to before text
+    found_does to after before text there counts goes start c shown =
+        let none = no_server start old from c is shown in
+        let went = goes start (new_server id) (new_shows start old host id none.1 none.2 none.3 h) in
+        let next : Cluster = record c { server = Some (start_act went.0 (new_server id)).0 } in (
+          next,
+          (start_act went.0 (new_server id)).1,
+          ([], went.0, tt, founds went.0 c id none.0),
+          went.2,
+          (shown.0 ∙ sym counts, subst (λ (o : Option Host). ShowsHost told means start new o (Some (start_act went.0 (new_server id)).0)) (sym there) went.1),
+        )
+
+    pub found_breaks : BreaksOff told means start_act old new host → BreaksLine told means (ClusterLine id) old new from
+    found_breaks off start c shown =
+        let none = no_server start old from c is shown in
+        let broke = off start (new_server id) (new_shows start old host id none.1 none.2 none.3 h) in
+        by none.0 broke.0 broke.1 broke.2
+      where
+        by : c.server ≡ None → (reached : Server) → ((reached ≡ new_server id) ⊎ ((course : Course) × (reached ≡ (start_act course (new_server id)).0))) → ServerStands told means start new (Some reached)
+            → (reached : Cluster) × ((reached ≡ c) ⊎ (named c (ClusterLine id) ≡ Some reached) ⊎ ((written : List ℕ) × Leads c (ClusterLine id) written reached)) × ServerStands told means start new reached.server
+        by none reached (inl same) stands = (
+          record c { server = Some (new_server id) },
+          inr (inl (ap (λ (o : Option Server). named (record c { server = o }) (ClusterLine id)) none)),
+          subst (λ (r : Server). ServerStands told means start new (Some r)) same stands,
+        )
+        by none reached (inr (course, goes)) stands = (
+          record c { server = Some (start_act course (new_server id)).0 },
+          inr (inr ((start_act course (new_server id)).1, ([], course, tt, founds course c id none))),
+          subst (λ (r : Server). ServerStands told means start new (Some r)) goes stands,
+        )
+
+  -- ---- want of memory, before anything was touched
+
+  module _ (stands : (start pair : DiskPair D F) (host : Option Host) (server : Option Server) → ShowsHost told means start pair host server → ServerStands told means start pair server) where
+    pub breaks_untouched : (line : Line) (old new : DiskPair D F) (from : World) → new ≡ old → BreaksLine told means line old new from
+    breaks_untouched line old new from same start c shown =
+        (c, inl refl, subst (λ (p : DiskPair D F). ServerStands told means start p c.server) (sym same) (stands start old from.host c.server shown.1))
+
+    pub breaks_unread : (bytes : List ℕ) (old new : DiskPair D F) (from : World) → new ≡ old → Breaks told means bytes old new from
+    breaks_unread bytes old new from same start c shown =
+        (c, inl refl, subst (λ (p : DiskPair D F). ServerStands told means start p c.server) (sym same) (stands start old from.host c.server shown.1))
+
+-- ---- the bytes of a line
 
 step_is : (items : List Item) (course : Course) (c : Cluster) (bytes : List ℕ) (line : Line) → line_of bytes ≡ Some line → step items course c bytes ≡ done items course c line
 unfolding step
 step_is items course c bytes line is = ap (option_and_then (done items course c)) is
 
-pub step_none : (items : List Item) (course : Course) (c : Cluster) (bytes : List ℕ) → line_of bytes ≡ None → step items course c bytes ≡ None
+step_none : (items : List Item) (course : Course) (c : Cluster) (bytes : List ℕ) → line_of bytes ≡ None → step items course c bytes ≡ None
 unfolding step
 step_none items course c bytes is = ap (option_and_then (done items course c)) is
 
 pub outside_unread : (c : Cluster) (bytes : List ℕ) → line_of bytes ≡ None → IsOutside c bytes
-outside_unread c bytes is = step_none [] Whole c bytes is
+outside_unread c bytes is = step_none [] whole c bytes is
 
-pub outside_by : (c : Cluster) (bytes : List ℕ) (line : Line) → line_of bytes ≡ Some line → done [] Whole c line ≡ None → IsOutside c bytes
-outside_by c bytes line is none = step_is [] Whole c bytes line is ∙ none
+pub outside_by : (c : Cluster) (bytes : List ℕ) (line : Line) → line_of bytes ≡ Some line → done [] whole c line ≡ None → IsOutside c bytes
+outside_by c bytes line is none = step_is [] whole c bytes line is ∙ none
 
-pub leads_steps : (c next : Cluster) (bytes : List ℕ) (line : Line) (before after : List ℕ) → line_of bytes ≡ Some line → Leads c line before after next
-    → (written : List ℕ) × Steps c bytes written next × (after ≡ before ++ written)
-leads_steps c next bytes line before after is (items, course, written, read, does, was) = (
-  written,
-  (
-    record { items = items; are_read = subst (λ (o : Option Line). AreRead (statements_in o) items) (sym is) read; course = course },
-    step_is items course c bytes line is ∙ does,
-  ),
-  was,
+leads_steps : (c next : Cluster) (bytes written : List ℕ) (line : Line) → line_of bytes ≡ Some line → Leads c line written next → Steps c bytes written next
+leads_steps c next bytes written line is (items, course, read, does) = (
+  record { items = items; are_read = subst (λ (o : Option Line). AreRead (statements_in o) items) (sym is) read; course = course },
+  step_is items course c bytes line is ∙ does,
 )
 
-module _ {D F : Type 0} (told : Bool) (means : D → DiskMeaning) where
-  pub breaks_reach : (pair : DiskPair D F) (w : World) (bytes : List ℕ) (line : Line) → line_of bytes ≡ Some line → Breaks told means pair w.cluster line
-      → (reached : World) × MayReach w bytes reached × PairKept told means pair reached
-  breaks_reach pair w bytes line is (reached, inl same, kept) = (reached, inl same, kept)
-  breaks_reach pair w bytes line is (reached, inr (items, course, written, read, does), kept) = (
-    reached,
-    inr (
-      written,
-      (
-        record { items = items; are_read = subst (λ (o : Option Line). AreRead (statements_in o) items) (sym is) read; course = course },
-        step_is items course w.cluster bytes line is ∙ does,
-      ),
-    ),
-    kept,
-  )
+module _ {D F : Type 0} (told : Bool) (means : D → DiskMeaning) (bytes : List ℕ) (line : Line) (is : line_of bytes ≡ Some line) (old new : DiskPair D F) (from : World) where
+  pub does_bytes : (to : World) (before text : List ℕ) → DoesLine told means line old new from to before text → Does told means bytes old new from to before text
+  does_bytes to before text does start c shown =
+      let d = does start c shown in
+      (d.0, d.1, leads_steps c d.0 bytes d.1 line is d.2, d.3, d.4)
 
--- whatever its statements are read as, a line can stand at the same places
-events_alike : (course : Course) (c : Cluster) (id : List ℕ) (rule rule' : Node → Turn) (asked : List ℕ) (x : Written) → event_at course c id rule asked ≡ Some x
-    → (y : Written) × (event_at course c id rule' asked ≡ Some y)
-events_alike course c id rule rule' asked x is = at c.server refl
-  where
-    at : (o : Option Server) → c.server ≡ o → (y : Written) × (event_at course c id rule' asked ≡ Some y)
-    at None none = let e = event_none course c id rule asked none in absurd (cc)
-    at (Some s) some = by (bytes_eq s.id id) refl
-      where
-        by : (b : Bool) → bytes_eq s.id id ≡ b → (y : Written) × (event_at course c id rule' asked ≡ Some y)
-        by true same = ((record c { server = Some (event s rule' asked course).0 }, (event s rule' asked course).1), event_does course c s id rule' asked some same)
-        by false other = let e = event_other course c s id rule asked some other in absurd (cc)
+  pub breaks_bytes : BreaksLine told means line old new from → Breaks told means bytes old new from
+  breaks_bytes breaks start c shown =
+      let b = breaks start c shown in
+      (b.0, by b.0 b.1, b.2)
+    where
+      by : (reached : Cluster) → ((reached ≡ c) ⊎ (named c line ≡ Some reached) ⊎ ((written : List ℕ) × Leads c line written reached)) → MayReach c bytes reached
+      by reached (inl same) = inl same
+      by reached (inr (inl within)) = inr (inl (ap (option_and_then (named c)) is ∙ within))
+      by reached (inr (inr (written, leads))) = inr (inr (written, leads_steps c reached bytes written line is leads))
 
-asks_alike : (course : Course) (c : Cluster) (id body : List ℕ) (rule : ℕ → List Item → Node → Turn) (items : List Item) (x : Written) → ask_at course c id rule [] body ≡ Some x
-    → (y : Written) × (ask_at course c id rule items body ≡ Some y)
-asks_alike course c id body rule items x is = at (texts_of body) refl
-  where
-    at : (o : Option (List (List ℕ))) → texts_of body ≡ o → (y : Written) × (ask_at course c id rule items body ≡ Some y)
-    at None none = let e = ask_not_listed course c id body rule [] none in absurd (cc)
-    at (Some texts) some =
-        let one : event_at course (record c { asks = c.asks + 1 }) id (rule (c.asks + 1) []) ((c.asks + 1) ∷ []) ≡ Some x =
-        sym (ap (option_and_then (λ (t : List (List ℕ)). event_at course (record c { asks = c.asks + 1 }) id (rule (c.asks + 1) []) ((c.asks + 1) ∷ []))) some) ∙ is in
-        let other = events_alike course (record c { asks = c.asks + 1 }) id (rule (c.asks + 1) []) (rule (c.asks + 1) items) ((c.asks + 1) ∷ []) x one in
-        (other.0, ap (option_and_then (λ (t : List (List ℕ)). event_at course (record c { asks = c.asks + 1 }) id (rule (c.asks + 1) items) ((c.asks + 1) ∷ []))) some ∙ other.1)
+  pub outside_bytes : IsOutsideHere told means line old from → (start : DiskPair D F) (c : Cluster) → ShowsCluster told means start old from c → IsOutside c bytes
+  outside_bytes outside start c shown = outside_by c bytes line is (outside start c shown)
 
-lines_alike : (course : Course) (c : Cluster) (line : Line) (items : List Item) (x : Written) → done [] course c line ≡ Some x → (y : Written) × (done items course c line ≡ Some y)
-lines_alike course c Skip items x is = (x, is)
-lines_alike course c (ClusterLine id) items x is = (x, is)
-lines_alike course c (Elect id) items x is = (x, is)
-lines_alike course c (Apply id) items x is = (x, is)
-lines_alike course c (Execute id body) items x is = asks_alike course c id body (λ number read n. execute n number read) items x is
-lines_alike course c (Query id body) items x is = asks_alike course c id body (λ number read n. query n number read) items x is
+pub on_ok_map : {T E : Type 0} (r : Result T E) (P Q : Type 0) → (P → Q) → OnOk r P → OnOk r Q
+on_ok_map (Ok x) P Q f holds = f holds
+on_ok_map (Err e) P Q f holds = tt
 
--- a line that can stand here leads somewhere
-pub steps_somewhere : Readable → (c : Cluster) (bytes : List ℕ) (x : Written) → step [] Whole c bytes ≡ Some x → (text : List ℕ) × (next : Cluster) × Steps c bytes text next
-steps_somewhere readable c bytes x is = at (line_of bytes) refl
-  where
-    at : (o : Option Line) → line_of bytes ≡ o → (text : List ℕ) × (next : Cluster) × Steps c bytes text next
-    at None none = let e = step_none [] Whole c bytes none in absurd (cc)
-    at (Some line) some =
-        let items = some_items readable (statements_in (line_of bytes)) in
-        let other = lines_alike Whole c line items.0 x (sym (step_is [] Whole c bytes line some) ∙ is) in
-        (other.0.1, other.0.0, (record { items = items.0; are_read = items.1; course = Whole }, step_is items.0 Whole c bytes line some ∙ other.1))
+-- ---- nine pairs, of which the first one is the server's
+
+first_of : {T : Type 0} (xs : List T) → length xs ≡ 9 → (x : T) × (slice_get xs 0 ≡ Some x)
+first_of [] count = absurd (omega (arith, count))
+first_of (x ∷ xs) count = (x, refl)
+
+first_set : {T : Type 0} (xs : List T) (x y : T) → slice_get (set xs 0 y) 0 ≡ Some x → x ≡ y
+first_set [] x y at = absurd (cc)
+first_set (z ∷ xs) x y at = let e : Some y ≡ Some x = at in cc
+
+other_set : {T : Type 0} (xs : List T) (k : ℕ) (x y : T) → 0 < k → slice_get (set xs 0 y) k ≡ Some x → slice_get xs k ≡ Some x
+other_set [] k x y above at = at
+other_set (z ∷ xs) zero x y above at = absurd (omega (arith, above))
+other_set (z ∷ xs) (suc k) x y above at = at
+
+same_some : {T : Type 0} (o : Option T) (x y : T) → o ≡ Some x → o ≡ Some y → x ≡ y
+same_some o x y one two = cc
+
+module _ {D F : Type 0} (told : Bool) (means : D → DiskMeaning) (pairs : List (DiskPair D F)) (old new : DiskPair D F) (from : World) (there : slice_get pairs 0 ≡ Some old) where
+  pub step_does : (bytes : List ℕ) (to : World) (before text : List ℕ) → Does told means bytes old new from to before text
+      → (start : List (DiskPair D F)) (c : Cluster) → Shows told means start pairs from c
+      → (next : Cluster) × (written : List ℕ) × Steps c bytes written next × (text ≡ before ++ written) × Shows told means start (set pairs 0 new) to next
+  step_does bytes to before text does start c shows =
+      let s = first_of start shows.began in
+      let d = does s.0 c (shows.first s.0 old s.1 there) in (
+        d.0,
+        d.1,
+        d.2,
+        d.3,
+        record {
+          tells = shows.tells;
+          began = shows.began;
+          count = length-set pairs 0 new ∙ shows.count;
+          first = λ was now b n.
+              subst (λ (p : DiskPair D F). ShowsCluster told means p now to d.0) (same_some (slice_get start 0) s.0 was s.1 b)
+              (subst (λ (p : DiskPair D F). ShowsCluster told means s.0 p to d.0) (sym (first_set pairs now new n)) d.4);
+          others = λ k pair above at. shows.others k pair above (other_set pairs k pair new above at);
+        },
+      )
+
+  module _ (start : List (DiskPair D F)) (c : Cluster) (shows : Shows told means start pairs from c) where
+    holds : (reached : Cluster) → ((was : DiskPair D F) → slice_get start 0 ≡ Some was → ServerStands told means was new reached.server) → Holds told means start (set pairs 0 new) reached
+    holds reached stands = record {
+      count = length-set pairs 0 new ∙ shows.count;
+      first = λ was now b n. subst (λ (p : DiskPair D F). ServerStands told means was p reached.server) (sym (first_set pairs now new n)) (stands was b);
+      others = λ k pair above at. shows.others k pair above (other_set pairs k pair new above at);
+    }
+
+    -- the line can't stand here
+    pub step_outside : (bytes : List ℕ) → ((start : DiskPair D F) (c : Cluster) → ShowsCluster told means start old from c → IsOutside c bytes) → new ≡ old → Holds told means start pairs c
+        → IsOutside c bytes × Holds told means start (set pairs 0 new) c
+    step_outside bytes outside same held =
+        let s = first_of start shows.began in (
+          outside s.0 c (shows.first s.0 old s.1 there),
+          holds c (λ was b. subst (λ (p : DiskPair D F). ServerStands told means was p c.server) (sym same) (held.first was old b there)),
+        )
+
+    -- want of memory broke it off
+    pub step_breaks : (bytes : List ℕ) → Breaks told means bytes old new from → (reached : Cluster) × MayReach c bytes reached × Holds told means start (set pairs 0 new) reached
+    step_breaks bytes breaks =
+        let s = first_of start shows.began in
+        let b = breaks s.0 c (shows.first s.0 old s.1 there) in
+        (b.0, b.1, holds b.0 (λ was at. subst (λ (p : DiskPair D F). ServerStands told means p new b.0.server) (same_some (slice_get start 0) s.0 was s.1 at) b.2))

@@ -1,42 +1,42 @@
 -- What is written with each status, and what the files keep, as docs/SCRIPT.md has it, "The end".
 use Rattle.std.specs.Prelude.{◌≡◌, ◌⊎◌, ℕ, List, ◌∷◌, ◌++◌, Bool, IsTrue, ⊤}
-use Rattle.rq_cluster.specs.World.{World, Steps, MayReach, IsStarted, ending}
-use Rattle.rq_cluster.specs.Lines.{Line, IsWithin, lines_of, whole_lines}
-use Rattle.rq_cluster.specs.Runs.{Runs, StopsAt}
+use Rattle.rq_script.specs.Cluster.{Cluster, Steps, MayReach, IsStarted, ending}
+use Rattle.rq_script.specs.Lines.{Line, IsWithin, lines_of, whole_lines}
+use Rattle.rq_script.specs.Runs.{Runs, StopsAt}
 use Rattle.rq_cluster.specs.LastLines.{stopped_line, read_fault, IsPrefix}
 
 -- how a script ends with each status, where a source with these bytes left has those left at the end, and has failed or not:
--- the text of its lines, and what is written behind it. `Kept` holds of the world that the files keep: the last one
-pub data Ends (bytes left : List ℕ) (Failed : Type 0) (Kept : World → Type 0) : ℕ → List ℕ → List ℕ → Type 0 where
-  done : (text : List ℕ) (w : World) → Runs (lines_of bytes) text w → IsStarted w → Kept w → Ends bytes left Failed Kept 0 text (ending w)
-  outside : (n : ℕ) (text : List ℕ) (w : World) → StopsAt (lines_of bytes) n text w → Kept w → Ends bytes left Failed Kept 3 text (stopped_line n)
+-- the text of its lines, and what is written behind it. `Kept` holds of the cluster that the files keep: the last one
+pub data Ends (bytes left : List ℕ) (Failed : Type 0) (Kept : Cluster → Type 0) : ℕ → List ℕ → List ℕ → Type 0 where
+  done : (text : List ℕ) (c : Cluster) → Runs (lines_of bytes) text c → IsStarted c → Kept c → Ends bytes left Failed Kept 0 text (ending c)
+  outside : (n : ℕ) (text : List ℕ) (c : Cluster) → StopsAt (lines_of bytes) n text c → Kept c → Ends bytes left Failed Kept 3 text (stopped_line n)
   -- all lines that were read whole before the fault are done
-  fault : (read text : List ℕ) (w : World)
-      → Failed → bytes ≡ read ++ left → Runs (whole_lines read) text w → Kept w → Ends bytes left Failed Kept 4 text read_fault
+  fault : (read text : List ℕ) (c : Cluster)
+      → Failed → bytes ≡ read ++ left → Runs (whole_lines read) text c → Kept c → Ends bytes left Failed Kept 4 text read_fault
 
 -- a front of what is written with some status
 abbrev pub CutShort : List ℕ → List ℕ → Type 0 → List ℕ → Type 0
 CutShort bytes left Failed out = (status : ℕ) × (text last : List ℕ) × Ends bytes left Failed (λ _. ⊤) status text last × IsPrefix out (text ++ last)
 
--- how far the lines have come where a script is broken off after this text: the files keep the world after the lines done,
+-- how far the lines have come where a script is broken off after this text: the files keep the cluster after the lines done,
 -- or one of the line in hand
-pub data BrokenOff (all : List Line) (Kept : World → Type 0) : List ℕ → Type 0 where
+pub data BrokenOff (all : List Line) (Kept : Cluster → Type 0) : List ℕ → Type 0 where
   -- before a line
-  before : (lines more : List Line) (text : List ℕ) (w : World) → all ≡ lines ++ more → Runs lines text w → Kept w → BrokenOff all Kept text
+  before : (lines more : List Line) (text : List ℕ) (c : Cluster) → all ≡ lines ++ more → Runs lines text c → Kept c → BrokenOff all Kept text
   -- in the events of a line
-  within : (lines : List Line) (l : Line) (more : List Line) (text : List ℕ) (w reached : World)
-      → all ≡ lines ++ l ∷ more → Runs lines text w → IsWithin l → MayReach w l.text reached → Kept reached → BrokenOff all Kept text
+  within : (lines : List Line) (l : Line) (more : List Line) (text : List ℕ) (c reached : Cluster)
+      → all ≡ lines ++ l ∷ more → Runs lines text c → IsWithin l → MayReach c l.text reached → Kept reached → BrokenOff all Kept text
   -- in the text of a line
-  writing : (lines : List Line) (l : Line) (more : List Line) (text : List ℕ) (w : World) (front said : List ℕ) (next : World)
-      → all ≡ lines ++ l ∷ more → Runs lines text w → IsWithin l → Steps w l.text said next → IsPrefix front said → Kept next → BrokenOff all Kept (text ++ front)
+  writing : (lines : List Line) (l : Line) (more : List Line) (text : List ℕ) (c : Cluster) (front said : List ℕ) (next : Cluster)
+      → all ≡ lines ++ l ∷ more → Runs lines text c → IsWithin l → Steps c l.text said next → IsPrefix front said → Kept next → BrokenOff all Kept (text ++ front)
 
 -- and with the end of a script
-pub data Reached (bytes left : List ℕ) (Failed : Type 0) (Kept : World → Type 0) : List ℕ → Type 0 where
+pub data Reached (bytes left : List ℕ) (Failed : Type 0) (Kept : Cluster → Type 0) : List ℕ → Type 0 where
   in_lines : (out : List ℕ) → BrokenOff (lines_of bytes) Kept out → Reached bytes left Failed Kept out
   in_last : (status : ℕ) (text last front : List ℕ) → Ends bytes left Failed Kept status text last → IsPrefix front last → Reached bytes left Failed Kept (text ++ front)
 
 -- what is written with each status, and what the files keep: all of it, or a front of it where the sink failed or memory ran out
-pub data Wrote (bytes left : List ℕ) (Failed : Type 0) (Kept : World → Type 0) : ℕ → List ℕ → Type 0 where
+pub data Wrote (bytes left : List ℕ) (Failed : Type 0) (Kept : Cluster → Type 0) : ℕ → List ℕ → Type 0 where
   all : (status : ℕ) (text last : List ℕ) → Ends bytes left Failed Kept status text last → Wrote bytes left Failed Kept status (text ++ last)
   sink : (out : List ℕ) → CutShort bytes left Failed out → Reached bytes left Failed Kept out → Wrote bytes left Failed Kept 5 out
   memory : (out : List ℕ) → CutShort bytes left Failed out → Reached bytes left Failed Kept out → Wrote bytes left Failed Kept 6 out

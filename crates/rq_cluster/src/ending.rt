@@ -1,33 +1,38 @@
 // The end of a script, and last lines.
-ghost use Rattle.std.specs.Prelude.{◌≡◌, ◌≢◌, ◌≤◌, ◌<◌, ◌⊎◌, ◌+◌, ◌++◌, [], List, ℕ, IsTrue, IfOk, OnOk, OnErr, IsErrOf};
+ghost use Rattle.std.specs.Prelude.{◌≡◌, ◌≢◌, ◌≤◌, ◌<◌, ◌⊎◌, ◌+◌, ◌++◌, [], flat_map, List, ℕ, IsTrue, IfOk, OnOk, OnErr, IsErrOf};
 ghost use Rattle.rq_outside.specs.Counts.{Rose};
-ghost use Rattle.rq_cluster.specs.Lines.{lines_of};
+ghost use Rattle.rq_outside.specs.declared.pair.DiskPair.{DiskPair as ThePair};
+ghost use Rattle.rq_script.specs.Cluster.{Cluster};
+ghost use Rattle.rq_script.specs.Lines.{lines_of};
+ghost use Rattle.rq_script.specs.ScriptText.{pending_text};
 ghost use Rattle.rq_cluster.specs.Play.{Took, BrokenOff, Wrote};
 ghost use Rattle.rq_cluster.specs.LastLines.{stopped_line, LastLine};
-ghost use Rattle.rq_cluster.specs.World.{ending, Holds};
 ghost use Rattle.rq_cluster.specs.Feed.{IsAfter, StopsKept, AtEnd};
+ghost use Rattle.rq_cluster.specs.Shown.{IsReady, Shows, pending_in};
+ghost use Rattle.rq_cluster.specs.Standing.{Holds};
 ghost use Rattle.rq_cluster.specs.declared.feeding.Stop.TheVariants.{Outside as StopOutside, Sink as StopSink, Source as StopSource};
 
 use crate::feeding::{Stop, do_line};
 use crate::giving::give;
 use crate::progress::Progress;
+use crate::standing::shown_clusters_stand;
 use crate::world::World;
-use rq_outside::{Disk, DiskPair, Sink, SinkError};
+use rq_outside::{CrashDisk, DiskPair, Sink, SinkError};
 use rq_settle::each_text_is_prepared;
 use std::alloc::Global;
 
 /// Does the line that has no LF, and answers the number of a line after the last.
-pub fn last_held<D: Disk, K: Sink>(
+pub fn last_held<D: CrashDisk, K: Sink>(
     progress: &mut Progress,
     alloc: Global,
     disks: &mut Vec<DiskPair<D>>,
     sink: &mut K,
 ) -> Result<u64, Stop>
-    requires files { Holds D.told D.means disks.old.items progress.old.world }
-    ensures ok { IfOk result (λ number. (read text : List ℕ) → IsAfter read text progress.old → Took K.told (K.taken sink.old) (K.taken sink.new) (λ out. AtEnd (lines_of read) (text ++ out) progress.new.world number)) }
-    ensures files { OnOk result (Holds D.told D.means disks.new.items progress.new.world) }
-    ensures outside { IsErrOf result StopOutside → (read text : List ℕ) → IsAfter read text progress.old → Took K.told (K.taken sink.old) (K.taken sink.new) (λ out. StopsKept (Holds D.told D.means disks.new.items) progress.new.number (lines_of read) (text ++ out)) }
-    ensures part { OnErr result ((read text : List ℕ) → IsAfter read text progress.old → Took K.told (K.taken sink.old) (K.taken sink.new) (λ out. BrokenOff (lines_of read) (Holds D.told D.means disks.new.items) (text ++ out))) }
+    requires ready { IsReady D.told D.means disks.old.items progress.old.world }
+    ensures ok { IfOk result (λ number. (start : List (ThePair D D.Fault)) (read text : List ℕ) → IsAfter D.told D.means start disks.old.items read text progress.old → Took K.told (K.taken sink.old) (K.taken sink.new) (λ out. (c : Cluster) × AtEnd (lines_of read) (text ++ out) c number × Shows D.told D.means start disks.new.items progress.new.world c)) }
+    ensures ready { OnOk result (IsReady D.told D.means disks.new.items progress.new.world) }
+    ensures outside { IsErrOf result StopOutside → (start : List (ThePair D D.Fault)) (read text : List ℕ) → IsAfter D.told D.means start disks.old.items read text progress.old → Took K.told (K.taken sink.old) (K.taken sink.new) (λ out. StopsKept (Holds D.told D.means start disks.new.items) progress.new.number (lines_of read) (text ++ out)) }
+    ensures part { OnErr result ((start : List (ThePair D D.Fault)) (read text : List ℕ) → IsAfter D.told D.means start disks.old.items read text progress.old → Took K.told (K.taken sink.old) (K.taken sink.new) (λ out. BrokenOff (lines_of read) (Holds D.told D.means start disks.new.items) (text ++ out))) }
     ensures later { K.faults sink.old ≤ K.faults sink.new }
     ensures cause { IsErrOf result StopSink → Rose (K.faults sink.old) (K.faults sink.new) }
     ensures not_source { IsErrOf result StopSource → ⊥ }
@@ -72,7 +77,7 @@ pub fn stop_at<K: Sink>(alloc: Global, sink: &mut K, number: u64) -> u8
 /// Writes the end of a script that was done whole, and answers the status.
 pub fn give_ending<K: Sink>(alloc: Global, sink: &mut K, world: &World) -> u8
     ensures statuses { (result ≡ 0) ⊎ (result ≡ 5) ⊎ (result ≡ 6) }
-    ensures wrote { Took K.told (K.taken sink.old) (K.taken sink.new) (LastLine 0 (ending world.now) result) }
+    ensures wrote { Took K.told (K.taken sink.old) (K.taken sink.new) (LastLine 0 (flat_map pending_text (pending_in world.now.host)) result) }
     ensures later { K.faults sink.old ≤ K.faults sink.new }
     ensures cause { result ≡ 5 → Rose (K.faults sink.old) (K.faults sink.new) }
 {
@@ -84,19 +89,20 @@ pub fn give_ending<K: Sink>(alloc: Global, sink: &mut K, world: &World) -> u8
 }
 
 /// Does what is left at the end of the input, and answers the status.
-pub fn end_script<D: Disk, K: Sink>(
+pub fn end_script<D: CrashDisk, K: Sink>(
     progress: &mut Progress,
     alloc: Global,
     disks: &mut Vec<DiskPair<D>>,
     sink: &mut K,
 ) -> u8
-    requires files { Holds D.told D.means disks.old.items progress.old.world }
-    ensures wrote { (read text : List ℕ) → IsAfter read text progress.old → Took K.told (K.taken sink.old) (K.taken sink.new) (λ out. Wrote read [] ⊥ (Holds D.told D.means disks.new.items) result (text ++ out)) }
+    requires ready { IsReady D.told D.means disks.old.items progress.old.world }
+    ensures wrote { (start : List (ThePair D D.Fault)) (read text : List ℕ) → IsAfter D.told D.means start disks.old.items read text progress.old → Took K.told (K.taken sink.old) (K.taken sink.new) (λ out. Wrote read [] ⊥ (Holds D.told D.means start disks.new.items) result (text ++ out)) }
     ensures statuses { (result ≡ 0) ⊎ (result ≡ 3) ⊎ (result ≡ 5) ⊎ (result ≡ 6) }
     ensures later { K.faults sink.old ≤ K.faults sink.new }
     ensures cause { result ≡ 5 → Rose (K.faults sink.old) (K.faults sink.new) }
 {
     each_text_is_prepared();
+    shown_clusters_stand::<D>();
     match last_held(progress, alloc, disks, sink) {
         Ok(number) => {
             if progress.world.is_started() {

@@ -1,18 +1,22 @@
 // Lines out of bytes that come in any pieces, each done when its end comes.
 ghost use Rattle.std.specs.Prelude.{◌≡◌, ◌≢◌, ◌≤◌, ◌<◌, ◌⊎◌, ◌+◌, ◌++◌, ◌∷◌, [], List, ℕ, length, take, slice_index, IsTrue, IfOk, OnOk, OnErr, IsErrOf};
 ghost use Rattle.rq_outside.specs.Counts.{Rose};
-ghost use Rattle.rq_cluster.specs.World.{first_world, Steps, IsOutside, Holds};
-ghost use Rattle.rq_cluster.specs.Lines.{drop_cr};
+ghost use Rattle.rq_outside.specs.declared.pair.DiskPair.{DiskPair as ThePair};
+ghost use Rattle.rq_script.specs.Cluster.{Cluster, first_cluster, Steps, IsOutside};
+ghost use Rattle.rq_script.specs.Lines.{drop_cr, lines_of};
+ghost use Rattle.rq_script.specs.Runs.{StopsAt};
+ghost use Rattle.rq_cluster.specs.Feed.{After, IsAfter, IsBetween, PartOf, StopsKept, GoesOn, Stopped, HasNoLineEnd};
 ghost use Rattle.rq_cluster.specs.Play.{Took, BrokenOff};
-ghost use Rattle.rq_cluster.specs.Runs.{StopsAt};
-ghost use Rattle.rq_cluster.specs.Feed.{IsAfter, IsBetween, PartOf, StopsKept, GoesOn, Stopped, HasNoLineEnd};
+ghost use Rattle.rq_cluster.specs.Shown.{IsReady, Shows};
+ghost use Rattle.rq_cluster.specs.Standing.{Holds};
 ghost use Rattle.rq_cluster.specs.declared.feeding.Stop.TheVariants.{Outside as StopOutside, Sink as StopSink, Source as StopSource};
 
 use crate::giving::give;
 use crate::line_error::LineError;
 use crate::progress::Progress;
+use crate::standing::shown_clusters_stand;
 use crate::world::World;
-use rq_outside::{Disk, DiskPair, Sink, SinkError, Source};
+use rq_outside::{CrashDisk, DiskPair, Sink, SinkError};
 use std::alloc::Global;
 
 /// The longest line, in bytes, without its end.
@@ -34,8 +38,9 @@ pub enum Stop {
 impl Progress {
     /// Before the first byte.
     pub fn new(alloc: Global) -> Progress
-        ensures after { IsAfter [] [] result }
-        ensures world { result.world ≡ first_world }
+        ensures after { After [] [] first_cluster result.number result.held.items result.read }
+        ensures host { result.world.host ≡ None }
+        ensures asks { result.world.asks ≡ 0 }
     {
         Progress {
             world: World::new(),
@@ -47,24 +52,24 @@ impl Progress {
 }
 
 /// Does a line, and gives its text to the sink.
-pub fn do_line<D: Disk, K: Sink>(
+pub fn do_line<D: CrashDisk, K: Sink>(
     alloc: Global,
     world: &mut World,
     disks: &mut Vec<DiskPair<D>>,
     sink: &mut K,
     line: &[u8],
 ) -> Result<(), Stop>
-    requires { Holds D.told D.means disks.old.items world.old }
-    ensures ok { OnOk result ((text : List ℕ) × (length line.now ≤ 2097152) × Steps world.old line.now text world.new × (IsTrue K.told → K.taken sink.new ≡ K.taken sink.old ++ text)) }
-    ensures files { OnOk result (Holds D.told D.means disks.new.items world.new) }
-    ensures outside { IsErrOf result StopOutside → (2097152 < length line.now) ⊎ IsOutside world.old line.now }
-    ensures outside_files { IsErrOf result StopOutside → Holds D.told D.means disks.new.items world.old }
+    requires { IsReady D.told D.means disks.old.items world.old }
+    ensures ok { OnOk result ((start : List (ThePair D D.Fault)) (c : Cluster) → Shows D.told D.means start disks.old.items world.old c → (next : Cluster) × (text : List ℕ) × (length line.now ≤ 2097152) × Steps c line.now text next × (IsTrue K.told → K.taken sink.new ≡ K.taken sink.old ++ text) × Shows D.told D.means start disks.new.items world.new next) }
+    ensures ready { OnOk result (IsReady D.told D.means disks.new.items world.new) }
+    ensures outside { IsErrOf result StopOutside → (start : List (ThePair D D.Fault)) (c : Cluster) → Shows D.told D.means start disks.old.items world.old c → ((2097152 < length line.now) ⊎ IsOutside c line.now) × Holds D.told D.means start disks.new.items c }
     ensures unwritten { IsErrOf result StopOutside → IsTrue K.told → K.taken sink.new ≡ K.taken sink.old }
-    ensures part { OnErr result (Took K.told (K.taken sink.old) (K.taken sink.new) (PartOf (Holds D.told D.means disks.new.items) world.old line.now)) }
+    ensures part { OnErr result ((start : List (ThePair D D.Fault)) (c : Cluster) → Shows D.told D.means start disks.old.items world.old c → Took K.told (K.taken sink.old) (K.taken sink.new) (PartOf (Holds D.told D.means start disks.new.items) c line.now)) }
     ensures later { K.faults sink.old ≤ K.faults sink.new }
     ensures cause { IsErrOf result StopSink → Rose (K.faults sink.old) (K.faults sink.new) }
     ensures not_source { IsErrOf result StopSource → ⊥ }
 {
+    shown_clusters_stand::<D>();
     if line.len() > MAX_LINE {
         return Err(Stop::Outside);
     }
@@ -96,22 +101,23 @@ fn without_cr(line: &[u8]) -> &[u8]
 }
 
 /// Does the line that is held, since its LF came.
-fn end_line<D: Disk, K: Sink>(
+fn end_line<D: CrashDisk, K: Sink>(
     progress: &mut Progress,
     alloc: Global,
     disks: &mut Vec<DiskPair<D>>,
     sink: &mut K,
 ) -> Result<(), Stop>
-    requires files { Holds D.told D.means disks.old.items progress.old.world }
-    ensures ok { OnOk result (GoesOn K.told (K.taken sink.old) (K.taken sink.new) progress.old progress.new (10 ∷ [])) }
+    requires ready { IsReady D.told D.means disks.old.items progress.old.world }
+    ensures ok { OnOk result (GoesOn D.told D.means disks.old.items disks.new.items K.told (K.taken sink.old) (K.taken sink.new) progress.old progress.new (10 ∷ [])) }
     ensures read { OnOk result (progress.new.read ≡ progress.old.read + 1) }
-    ensures files { OnOk result (Holds D.told D.means disks.new.items progress.new.world) }
-    ensures outside { IsErrOf result StopOutside → (rest : List ℕ) → Stopped K.told (K.taken sink.old) (K.taken sink.new) progress.old (10 ∷ rest) (StopsKept (Holds D.told D.means disks.new.items) progress.new.number) }
-    ensures part { OnErr result ((rest : List ℕ) → Stopped K.told (K.taken sink.old) (K.taken sink.new) progress.old (10 ∷ rest) (λ all out. BrokenOff all (Holds D.told D.means disks.new.items) out)) }
+    ensures ready { OnOk result (IsReady D.told D.means disks.new.items progress.new.world) }
+    ensures outside { IsErrOf result StopOutside → (rest : List ℕ) → Stopped D.told D.means disks.old.items disks.new.items K.told (K.taken sink.old) (K.taken sink.new) progress.old (10 ∷ rest) (λ start. StopsKept (Holds D.told D.means start disks.new.items) progress.new.number) }
+    ensures part { OnErr result ((rest : List ℕ) → Stopped D.told D.means disks.old.items disks.new.items K.told (K.taken sink.old) (K.taken sink.new) progress.old (10 ∷ rest) (λ start all out. BrokenOff all (Holds D.told D.means start disks.new.items) out)) }
     ensures later { K.faults sink.old ≤ K.faults sink.new }
     ensures cause { IsErrOf result StopSink → Rose (K.faults sink.old) (K.faults sink.new) }
     ensures not_source { IsErrOf result StopSource → ⊥ }
 {
+    shown_clusters_stand::<D>();
     if progress.read == MAX_SCRIPT {
         return Err(Stop::Outside);
     }
@@ -135,11 +141,11 @@ fn end_line<D: Disk, K: Sink>(
 /// Holds bytes of the line to come.
 fn hold(progress: &mut Progress, bytes: &[u8]) -> Result<(), Stop>
     requires { HasNoLineEnd bytes.now }
-    ensures ok { OnOk result ((told : _) (taken : List ℕ) → GoesOn told taken taken progress.old progress.new bytes.now) }
+    ensures ok { OnOk result ((read text : List ℕ) (c : Cluster) → After read text c progress.old.number progress.old.held.items progress.old.read → After (read ++ bytes.now) text c progress.new.number progress.new.held.items progress.new.read) }
     ensures read { OnOk result (progress.new.read ≡ progress.old.read + length bytes.now) }
     ensures world { progress.new.world ≡ progress.old.world }
-    ensures outside { IsErrOf result StopOutside → (rest : List ℕ) (told : _) (taken : List ℕ) → Stopped told taken taken progress.old (bytes.now ++ rest) (λ all out. StopsAt all progress.new.number out progress.old.world) }
-    ensures part { OnErr result ((rest : List ℕ) (told : _) (taken : List ℕ) → Stopped told taken taken progress.old (bytes.now ++ rest) (IsBetween progress.old.world)) }
+    ensures outside { IsErrOf result StopOutside → (rest read text : List ℕ) (c : Cluster) → After read text c progress.old.number progress.old.held.items progress.old.read → StopsAt (lines_of (read ++ (bytes.now ++ rest))) progress.new.number text c }
+    ensures part { OnErr result ((rest read text : List ℕ) (c : Cluster) → After read text c progress.old.number progress.old.held.items progress.old.read → IsBetween c (lines_of (read ++ (bytes.now ++ rest))) text) }
     ensures neither { (IsErrOf result StopSink → ⊥) × (IsErrOf result StopSource → ⊥) }
 {
     let count = bytes.len() as u64;
@@ -173,25 +179,26 @@ fn line_end(piece: &[u8]) -> usize
 }
 
 /// Takes the bytes up to and with the first LF, or all where there is none, and answers how many.
-fn take_front<D: Disk, K: Sink>(
+fn take_front<D: CrashDisk, K: Sink>(
     progress: &mut Progress,
     alloc: Global,
     disks: &mut Vec<DiskPair<D>>,
     sink: &mut K,
     piece: &[u8],
 ) -> Result<usize, Stop>
-    requires files { Holds D.told D.means disks.old.items progress.old.world }
+    requires ready { IsReady D.told D.means disks.old.items progress.old.world }
     requires some { 0 < length piece.now }
     ensures count { IfOk result (λ n. (0 < n) × (n ≤ length piece.now)) }
-    ensures ok { IfOk result (λ n. GoesOn K.told (K.taken sink.old) (K.taken sink.new) progress.old progress.new (take n piece.now)) }
+    ensures ok { IfOk result (λ n. GoesOn D.told D.means disks.old.items disks.new.items K.told (K.taken sink.old) (K.taken sink.new) progress.old progress.new (take n piece.now)) }
     ensures read { IfOk result (λ n. progress.new.read ≡ progress.old.read + n) }
-    ensures files { OnOk result (Holds D.told D.means disks.new.items progress.new.world) }
-    ensures outside { IsErrOf result StopOutside → (rest : List ℕ) → Stopped K.told (K.taken sink.old) (K.taken sink.new) progress.old (piece.now ++ rest) (StopsKept (Holds D.told D.means disks.new.items) progress.new.number) }
-    ensures part { OnErr result ((rest : List ℕ) → Stopped K.told (K.taken sink.old) (K.taken sink.new) progress.old (piece.now ++ rest) (λ all out. BrokenOff all (Holds D.told D.means disks.new.items) out)) }
+    ensures ready { OnOk result (IsReady D.told D.means disks.new.items progress.new.world) }
+    ensures outside { IsErrOf result StopOutside → (rest : List ℕ) → Stopped D.told D.means disks.old.items disks.new.items K.told (K.taken sink.old) (K.taken sink.new) progress.old (piece.now ++ rest) (λ start. StopsKept (Holds D.told D.means start disks.new.items) progress.new.number) }
+    ensures part { OnErr result ((rest : List ℕ) → Stopped D.told D.means disks.old.items disks.new.items K.told (K.taken sink.old) (K.taken sink.new) progress.old (piece.now ++ rest) (λ start all out. BrokenOff all (Holds D.told D.means start disks.new.items) out)) }
     ensures later { K.faults sink.old ≤ K.faults sink.new }
     ensures cause { IsErrOf result StopSink → Rose (K.faults sink.old) (K.faults sink.new) }
     ensures not_source { IsErrOf result StopSource → ⊥ }
 {
+    shown_clusters_stand::<D>();
     let count = line_end(piece);
     match hold(progress, &piece[..count]) {
         Ok(()) => {}
@@ -207,19 +214,19 @@ fn take_front<D: Disk, K: Sink>(
 }
 
 /// Takes a piece of the script.
-pub fn feed<D: Disk, K: Sink>(
+pub fn feed<D: CrashDisk, K: Sink>(
     progress: &mut Progress,
     alloc: Global,
     disks: &mut Vec<DiskPair<D>>,
     sink: &mut K,
     piece: &[u8],
 ) -> Result<(), Stop>
-    requires files { Holds D.told D.means disks.old.items progress.old.world }
-    ensures ok { OnOk result (GoesOn K.told (K.taken sink.old) (K.taken sink.new) progress.old progress.new piece.now) }
+    requires ready { IsReady D.told D.means disks.old.items progress.old.world }
+    ensures ok { OnOk result (GoesOn D.told D.means disks.old.items disks.new.items K.told (K.taken sink.old) (K.taken sink.new) progress.old progress.new piece.now) }
     ensures read { OnOk result (progress.new.read ≡ progress.old.read + length piece.now) }
-    ensures files { OnOk result (Holds D.told D.means disks.new.items progress.new.world) }
-    ensures outside { IsErrOf result StopOutside → (rest : List ℕ) → Stopped K.told (K.taken sink.old) (K.taken sink.new) progress.old (piece.now ++ rest) (StopsKept (Holds D.told D.means disks.new.items) progress.new.number) }
-    ensures part { OnErr result ((rest : List ℕ) → Stopped K.told (K.taken sink.old) (K.taken sink.new) progress.old (piece.now ++ rest) (λ all out. BrokenOff all (Holds D.told D.means disks.new.items) out)) }
+    ensures ready { OnOk result (IsReady D.told D.means disks.new.items progress.new.world) }
+    ensures outside { IsErrOf result StopOutside → (rest : List ℕ) → Stopped D.told D.means disks.old.items disks.new.items K.told (K.taken sink.old) (K.taken sink.new) progress.old (piece.now ++ rest) (λ start. StopsKept (Holds D.told D.means start disks.new.items) progress.new.number) }
+    ensures part { OnErr result ((rest : List ℕ) → Stopped D.told D.means disks.old.items disks.new.items K.told (K.taken sink.old) (K.taken sink.new) progress.old (piece.now ++ rest) (λ start all out. BrokenOff all (Holds D.told D.means start disks.new.items) out)) }
     ensures later { K.faults sink.old ≤ K.faults sink.new }
     ensures cause { IsErrOf result StopSink → Rose (K.faults sink.old) (K.faults sink.new) }
     ensures not_source { IsErrOf result StopSource → ⊥ }

@@ -1,103 +1,129 @@
-//! A node of the script, while it runs and when it is down.
-ghost use Rattle.std.specs.Prelude.{◌≡◌, ◌++◌, ◌∷◌, [], None, Some, flat_map, IsTrue, IfOk, OnOk, OnErr};
+//! A server of the script: its node while it runs, and what is left of it when it is down.
+ghost use Rattle.std.specs.Prelude.{◌≡◌, ◌≢◌, ◌≤◌, ◌+◌, ◌-◌, ◌*◌, ◌^◌, ◌++◌, ◌∷◌, ◌↔◌, [], List, ℕ, None, Some, flat_map, length, All, IsTrue, IsSome, IfOk, OnOk, OnErr, OnSome, is_some, true, false, ⊤};
+ghost use Rattle.rq_outside.specs.declared.pair.Arm.TheVariants.{Passes, Struck};
 ghost use Rattle.rq_outside.specs.declared.pair.FileNo.{FileNo};
-ghost use Rattle.rq_cluster.specs.Files.{IsClosed};
-ghost use Rattle.rq_cluster.specs.Cluster.{first_server, numbers as numbers_of, unanswered};
-ghost use Rattle.rq_cluster.specs.Hosting.{server_of, event, Goes, BreaksOff, HostKept, KeepsFile};
-ghost use Rattle.rq_cluster.specs.Rules as rules_of;
-ghost use Rattle.rq_cluster.specs.ScriptText.{down_text, pending_text};
+ghost use Rattle.rq_outside.specs.Pair.{arm_of, disk_at};
+ghost use Rattle.rq_node.specs.Rules as rules_of;
+ghost use Rattle.rq_node.specs.Sound.{IsReadable};
+ghost use Rattle.rq_script.specs.Cluster.{numbers as numbers_of, left_after};
+ghost use Rattle.rq_script.specs.ScriptText.{down_text, pending_text};
+ghost use Rattle.rq_cluster.specs.Acting as act;
+ghost use Rattle.rq_cluster.specs.Acting.{pending_at, asked_of, HasStruck, Crashed};
+ghost use Rattle.rq_cluster.specs.Shown.{HostReady, IsArmed, LetsPass, Goes, BreaksOff, armed_of};
 
-use crate::node::{Node, State};
-use crate::saying::{write_all_pending, write_answer, write_answers, write_down, write_up};
-use crate::turn_error::TurnError;
-use crate::waiting::Waiting;
+use crate::arming::Arming;
 use rq_engine::Item;
-use rq_outside::{Disk, DiskPair};
+use rq_node::{Node, NodeError, State, TurnError, Waiting};
+use rq_outside::{CrashDisk, DiskPair};
+use rq_script::{
+    write_all_pending, write_answer, write_answers, write_down, write_show, write_show_down,
+    write_up,
+};
 use rq_values::{Id, NoMemory, Seq};
+use rq_wal::current_logs_stand;
 use std::alloc::Global;
 
-/// A node of the script, while it runs and when it is down.
+/// A server of the script.
 #[derive(Drop)]
 pub struct Host {
     id: Id,
+    /// The node, while it runs.
     node: Option<Node>,
-    /// The asks that were lost when the node went down, and those put to it since, in rising order.
+    armed: Option<Arming>,
+    /// The asks that were lost when the node went down, and those put to it while it was down, in rising order.
     lost: Vec<u64>,
+    /// How often a failing disk took the node down or kept it from starting.
+    failures: u64,
 }
 
 impl Host {
     pub fn id(&self) -> &Id
-        ensures { result.now ≡ (server_of self.now).id }
+        ensures { result.now ≡ self.now.id }
     {
         &self.id
     }
 
-    /// Lets the node stand for election.
-    pub fn elect<D: Disk>(
+    pub fn is_running(&self) -> bool
+        ensures { result ≡ is_some self.now.node }
+    {
+        self.node.is_some()
+    }
+
+    /// A server of that name, whose node was never started.
+    pub fn new(alloc: Global, id: Id) -> Host
+        ensures id { result.id ≡ id }
+        ensures node { result.node ≡ None }
+        ensures armed { result.armed ≡ None }
+        ensures lost { result.lost.items ≡ [] }
+        ensures failures { result.failures ≡ 0 }
+    {
+        Host {
+            id,
+            node: None,
+            armed: None,
+            lost: Vec::new(alloc),
+            failures: 0,
+        }
+    }
+
+    /// Opens the files of a node that is down, starts it, and tells how that went.
+    pub fn start<D: CrashDisk>(
         &mut self,
         alloc: Global,
         disks: &mut DiskPair<D>,
         text: &mut Vec<u8>,
     ) -> Result<(), NoMemory>
-        requires kept { HostKept D.told D.means disks.old self.old }
-        ensures ok { OnOk result (Goes (event (server_of self.old) rules_of.elect []) text.old.items text.new.items (server_of self.new)) }
-        ensures kept { OnOk result (HostKept D.told D.means disks.new self.new) }
-        ensures broken { OnErr result (BreaksOff D.told D.means disks.new (event (server_of self.old) rules_of.elect []) (server_of self.old)) }
+        requires down { is_some self.old.node ≡ false }
+        ensures ok { OnOk result (Goes D.told D.means act.start disks.old disks.new self.old self.new text.old.items text.new.items) }
+        ensures ready { OnOk result (HostReady D.told D.means disks.new self.new) }
+        ensures broken { OnErr result (BreaksOff D.told D.means act.start disks.old disks.new self.old) }
     {
+        current_logs_stand::<D>();
+        self.let_pass(disks);
+        match Node::open(alloc, disks, self.id) {
+            Ok(node) => {
+                write_up(alloc, &node.state, text)?;
+                self.node = Some(node);
+                Ok(())
+            }
+            Err(NodeError::Disk) => {
+                self.failures = self.failures.checked_add(1).ok_or(NoMemory)?;
+                write_down(&self.id, text)
+            }
+            Err(_) => Err(NoMemory),
+        }
+    }
+
+    /// Lets the node stand for election.
+    pub fn elect<D: CrashDisk>(
+        &mut self,
+        alloc: Global,
+        disks: &mut DiskPair<D>,
+        text: &mut Vec<u8>,
+    ) -> Result<(), NoMemory>
+        requires ready { HostReady D.told D.means disks.old self.old }
+        ensures ok { OnOk result (Goes D.told D.means (act.event rules_of.elect []) disks.old disks.new self.old self.new text.old.items text.new.items) }
+        ensures ready { OnOk result (HostReady D.told D.means disks.new self.new) }
+        ensures broken { OnErr result (BreaksOff D.told D.means (act.event rules_of.elect []) disks.old disks.new self.old) }
+    {
+        current_logs_stand::<D>();
+        self.let_pass(disks);
         let Some(mut node) = self.node.take() else {
             return Ok(());
         };
         match node.elect(alloc, disks) {
-            Ok(()) => {
-                self.node = Some(node);
+            Ok(count) => {
+                self.go_on(node, count);
                 Ok(())
             }
-            Err(TurnError::NoMemory) => {
-                self.node = Some(node);
-                Err(NoMemory)
-            }
-            Err(TurnError::Disk) => self.lose(&node, text),
-        }
-    }
-
-    /// Starts the node on its disks, which are new, and tells it.
-    pub fn start<D: Disk>(
-        alloc: Global,
-        disks: &mut DiskPair<D>,
-        id: Id,
-        text: &mut Vec<u8>,
-    ) -> Result<Host, NoMemory>
-        requires one { IsClosed D.told D.means disks.old FileNo.One }
-        requires two { IsClosed D.told D.means disks.old FileNo.Two }
-        ensures ok { IfOk result (λ host. Goes (first_server id) text.old.items text.new.items (server_of host)) }
-        ensures kept { IfOk result (λ host. HostKept D.told D.means disks.new host) }
-    {
-        let lost = Vec::new(alloc);
-        match Node::start(alloc, disks, id) {
-            Ok(node) => {
-                write_up(alloc, &node.state, text)?;
-                Ok(Host {
-                    id,
-                    node: Some(node),
-                    lost,
-                })
-            }
             Err(TurnError::NoMemory) => Err(NoMemory),
-            Err(TurnError::Disk) => {
-                write_down(&id, text)?;
-                Ok(Host {
-                    id,
-                    node: None,
-                    lost,
-                })
-            }
+            Err(TurnError::Disk) => self.go_down(disks, &node.state, None, text),
         }
     }
 
     /// Lets the node apply what is committed. With no memory it is good for nothing more.
     pub fn apply(&mut self, alloc: Global, text: &mut Vec<u8>) -> Result<(), NoMemory>
-        ensures ok { OnOk result (Goes (event (server_of self.old) rules_of.apply []) text.old.items text.new.items (server_of self.new)) }
-        ensures kept { OnOk result (KeepsFile self.old self.new) }
+        ensures ok { OnOk result (act.Applies self.old self.new text.old.items text.new.items) }
     {
         let Some(mut node) = self.node.take() else {
             return Ok(());
@@ -109,7 +135,7 @@ impl Host {
     }
 
     /// Asks the node to execute a list.
-    pub fn execute<D: Disk>(
+    pub fn execute<D: CrashDisk>(
         &mut self,
         alloc: Global,
         disks: &mut DiskPair<D>,
@@ -117,30 +143,29 @@ impl Host {
         items: Seq<Item>,
         text: &mut Vec<u8>,
     ) -> Result<(), NoMemory>
-        requires kept { HostKept D.told D.means disks.old self.old }
-        ensures ok { OnOk result (Goes (event (server_of self.old) (λ n. rules_of.execute n number items) (number ∷ [])) text.old.items text.new.items (server_of self.new)) }
-        ensures kept { OnOk result (HostKept D.told D.means disks.new self.new) }
-        ensures broken { OnErr result (BreaksOff D.told D.means disks.new (event (server_of self.old) (λ n. rules_of.execute n number items) (number ∷ [])) (server_of self.old)) }
+        requires ready { HostReady D.told D.means disks.old self.old }
+        requires readable { All IsReadable items }
+        ensures ok { OnOk result (Goes D.told D.means (act.event (λ n. rules_of.execute n number items) (number ∷ [])) disks.old disks.new self.old self.new text.old.items text.new.items) }
+        ensures ready { OnOk result (HostReady D.told D.means disks.new self.new) }
+        ensures broken { OnErr result (BreaksOff D.told D.means (act.event (λ n. rules_of.execute n number items) (number ∷ [])) disks.old disks.new self.old) }
     {
+        current_logs_stand::<D>();
+        self.let_pass(disks);
         let Some(mut node) = self.node.take() else {
             self.lost.push(number)?;
             return Ok(());
         };
         match node.execute(alloc, disks, number, items) {
             Ok(Some(say)) => {
-                self.node = Some(node);
+                self.go_on(node, 0);
                 write_answer(alloc, number, &say, text)
             }
             Ok(None) => {
-                self.node = Some(node);
+                self.go_on(node, 1);
                 Ok(())
             }
             Err(TurnError::NoMemory) => Err(NoMemory),
-            Err(TurnError::Disk) => {
-                self.lose(&node, text)?;
-                self.lost.push(number)?;
-                Ok(())
-            }
+            Err(TurnError::Disk) => self.go_down(disks, &node.state, Some(number), text),
         }
     }
 
@@ -152,8 +177,7 @@ impl Host {
         items: &[Item],
         text: &mut Vec<u8>,
     ) -> Result<(), NoMemory>
-        ensures ok { OnOk result (Goes (event (server_of self.old) (λ n. rules_of.query n number items.now) (number ∷ [])) text.old.items text.new.items (server_of self.new)) }
-        ensures kept { OnOk result (KeepsFile self.old self.new) }
+        ensures ok { OnOk result (act.Queries number items.now self.old self.new text.old.items text.new.items) }
     {
         let Some(node) = &self.node else {
             self.lost.push(number)?;
@@ -163,9 +187,52 @@ impl Host {
         write_answer(alloc, number, &say, text)
     }
 
+    /// Stops the running node at once.
+    pub fn stop<D: CrashDisk>(
+        &mut self,
+        disks: &mut DiskPair<D>,
+        text: &mut Vec<u8>,
+    ) -> Result<(), NoMemory>
+        requires ready { HostReady D.told D.means disks.old self.old }
+        requires running { is_some self.old.node ≡ true }
+        ensures ok { OnOk result (Goes D.told D.means act.stop disks.old disks.new self.old self.new text.old.items text.new.items) }
+        ensures ready { OnOk result (HostReady D.told D.means disks.new self.new) }
+        ensures broken { OnErr result (BreaksOff D.told D.means act.stop disks.old disks.new self.old) }
+    {
+        current_logs_stand::<D>();
+        let Some(node) = self.node.take() else {
+            unreachable!()
+        };
+        disks.crash(0);
+        self.armed = None;
+        add_numbers(&node.state, &mut self.lost)?;
+        write_down(&self.id, text)
+    }
+
+    /// Lets the running node go down in the event that needs more than so many changing calls.
+    pub fn arm<D: CrashDisk>(&mut self, disks: &mut DiskPair<D>, arming: Arming)
+        requires ready { HostReady D.told D.means disks.old self.old }
+        requires running { is_some self.old.node ≡ true }
+        ensures ok { (bytes : List ℕ) → Goes D.told D.means (act.arm arming.calls arming.pick) disks.old disks.new self.old self.new bytes bytes }
+        ensures ready { HostReady D.told D.means disks.new self.new }
+    {
+        disks.arm(arming.calls);
+        self.armed = Some(arming);
+    }
+
+    /// `show ID ..`
+    pub fn show(&self, alloc: Global, text: &mut Vec<u8>) -> Result<(), NoMemory>
+        ensures { OnOk result (act.ShownAs self.now text.old.items text.new.items) }
+    {
+        match &self.node {
+            Some(node) => write_show(alloc, &node.state, text),
+            None => write_show_down(&self.id, text),
+        }
+    }
+
     /// Appends a line for each ask that has no answer, in rising order.
     pub fn write_pending(&self, alloc: Global, text: &mut Vec<u8>) -> Result<(), NoMemory>
-        ensures { OnOk result (text.new.items ≡ text.old.items ++ flat_map pending_text (unanswered (Some (server_of self.now)))) }
+        ensures { OnOk result (text.new.items ≡ text.old.items ++ flat_map pending_text (pending_at self.now)) }
     {
         let mut asks = Vec::new(alloc);
         asks.extend_from_slice(self.lost.as_slice())?;
@@ -175,15 +242,70 @@ impl Host {
         write_all_pending(alloc, asks.as_slice(), text)
     }
 
-    /// Loses the asks that wait at a node that a disk took down.
-    fn lose(&mut self, node: &Node, text: &mut Vec<u8>) -> Result<(), NoMemory>
+    /// Lets the pair pass all calls, where no line `stop ID K P` holds.
+    fn let_pass<D: CrashDisk>(&self, disks: &mut DiskPair<D>)
+        ensures one { disk_at disks.new FileNo.One ≡ disk_at disks.old FileNo.One }
+        ensures two { disk_at disks.new FileNo.Two ≡ disk_at disks.old FileNo.Two }
+        ensures passes { IsArmed D.told D.means disks.old (armed_of self.now.armed) → LetsPass D.told D.means disks.new (armed_of self.now.armed) }
+    {
+        match self.armed {
+            None => disks.arm(u64::MAX),
+            Some(_) => {}
+        }
+    }
+
+    /// The node goes on, with so many things made durable by four changing calls each.
+    fn go_on(&mut self, node: Node, count: u64)
+        ensures id { self.new.id ≡ self.old.id }
+        ensures node { self.new.node ≡ Some node }
+        ensures armed { armed_of self.new.armed ≡ left_after (armed_of self.old.armed) (4 * count) }
+        ensures lost { self.new.lost ≡ self.old.lost }
+        ensures failures { self.new.failures ≡ self.old.failures }
+    {
+        self.armed = left(self.armed, count);
+        self.node = Some(node);
+    }
+
+    /// The node has gone down with all that waits there: a line `stop ID K P` has struck, or a disk has failed.
+    fn go_down<D: CrashDisk>(
+        &mut self,
+        disks: &mut DiskPair<D>,
+        state: &State,
+        asked: Option<u64>,
+        text: &mut Vec<u8>,
+    ) -> Result<(), NoMemory>
         ensures id { OnOk result (self.new.id ≡ self.old.id) }
         ensures node { OnOk result (self.new.node ≡ self.old.node) }
-        ensures lost { OnOk result (self.new.lost.items ≡ self.old.lost.items ++ numbers_of node.now.state.waiting) }
+        ensures armed { OnOk result (self.new.armed ≡ None) }
+        ensures lost { OnOk result (self.new.lost.items ≡ self.old.lost.items ++ (numbers_of state.now.waiting ++ asked_of asked)) }
         ensures text { OnOk result (text.new.items ≡ text.old.items ++ down_text self.old.id) }
+        ensures struck { HasStruck (arm_of disks.old) self.old.armed → Crashed D.told D.means disks.old disks.new }
+        ensures struck_failures { HasStruck (arm_of disks.old) self.old.armed → OnOk result (self.new.failures ≡ self.old.failures) }
+        ensures failed { (HasStruck (arm_of disks.old) self.old.armed → ⊥) → disks.new ≡ disks.old }
+        ensures failures { (HasStruck (arm_of disks.old) self.old.armed → ⊥) → OnOk result (self.new.failures ≡ self.old.failures + 1) }
     {
-        add_numbers(&node.state, &mut self.lost)?;
+        match self.armed.take() {
+            Some(arming) if disks.struck() => disks.crash(arming.pick),
+            _ => self.failures = self.failures.checked_add(1).ok_or(NoMemory)?,
+        }
+        add_numbers(state, &mut self.lost)?;
+        if let Some(number) = asked {
+            self.lost.push(number)?;
+        }
         write_down(&self.id, text)
+    }
+}
+
+/// What is left of a line `stop ID K P` when so many things were made durable.
+fn left(armed: Option<Arming>, count: u64) -> Option<Arming>
+    ensures { armed_of result ≡ left_after (armed_of armed) (4 * count) }
+{
+    match armed {
+        Some(arming) => Some(Arming {
+            calls: arming.calls.saturating_sub(count.saturating_mul(4)),
+            pick: arming.pick,
+        }),
+        None => None,
     }
 }
 

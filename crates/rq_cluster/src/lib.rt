@@ -2,28 +2,28 @@
 //! sink, and a status. The rules are in `docs/SCRIPT.md`.
 #![tactic(auto)]
 
+mod arming;
 mod ending;
 mod feeding;
 mod giving;
 mod host;
-pub mod laws;
 mod line_error;
-mod log_entry;
 mod memory_pairs;
-mod node;
+mod preparing;
 mod progress;
 mod reading_lines;
-mod role;
 mod running;
-mod saying;
-mod script;
-mod turn_error;
-mod waiting;
+mod standing;
 mod words;
 mod world;
 
 pub use memory_pairs::empty_pairs;
+pub use rq_script::laws;
 pub use running::cluster_main;
 
+#[cfg(test)]
+mod order_tests;
+#[cfg(test)]
+mod stop_tests;
 #[cfg(test)]
 mod tests;

@@ -1,20 +1,31 @@
 //! Pairs of disks for a script in memory.
-ghost use Rattle.std.specs.Prelude.{◌≡◌, true, IfOk};
-ghost use Rattle.rq_cluster.specs.World.{IsNew, AreNew};
+ghost use Rattle.std.specs.Prelude.{◌≡◌, true, [], IfOk};
+ghost use Rattle.rq_outside.specs.Disk.{Only};
+ghost use Rattle.rq_cluster.specs.Standing.{IsNew, AreNew};
 ghost use Rattle.rq_cluster.specs.EmptyPairs.{sure_means};
 
-use rq_outside::{DiskPair, SureDisk};
+use rq_outside::{Disk, DiskPair, SureDisk};
 use rq_values::NoMemory;
 use std::alloc::Global;
+
+/// An empty disk in memory, whatever a crash leaves.
+pub(crate) fn empty_disk(alloc: Global) -> Result<SureDisk, NoMemory>
+    ensures { IfOk result (λ disk. Only [] (sure_means disk).images) }
+{
+    let mut disk = SureDisk::new(alloc, Vec::new(alloc))?;
+    disk.ready(0, 1)?;
+    match disk.sync() {
+        Ok(()) => Ok(disk),
+        Err(_) => Err(NoMemory),
+    }
+}
 
 /// A pair of empty disks in memory.
 #[tactic(auto, using(crate::proofs::Emptiness::empty_is_new))]
 fn empty_pair(alloc: Global) -> Result<DiskPair<SureDisk>, NoMemory>
     ensures { IfOk result (λ pair. IsNew true sure_means pair) }
 {
-    let one = SureDisk::new(alloc, Vec::new(alloc))?;
-    let two = SureDisk::new(alloc, Vec::new(alloc))?;
-    Ok(DiskPair::new(one, two))
+    Ok(DiskPair::new(empty_disk(alloc)?, empty_disk(alloc)?))
 }
 
 /// Nine pairs of empty disks in memory that never fail, one for each node that a script may name.

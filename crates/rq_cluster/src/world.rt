@@ -1,23 +1,27 @@
 //! The cluster of a script, and what its lines do: docs/SCRIPT.md, "Lines".
-ghost use Rattle.std.specs.Prelude.{◌≡◌, ◌++◌, ◌↔◌, ℕ, List, [], None, Some, IsTrue, IfOk, OnOk, IsErrOf, MatchOption};
+ghost use Rattle.std.specs.Prelude.{◌≡◌, ◌<◌, ◌++◌, ◌↔◌, ℕ, List, [], None, Some, All, IsTrue, IfOk, OnOk, IsErrOf, MatchOption, is_some, flat_map, ⊤};
+ghost use Rattle.rq_outside.specs.declared.pair.DiskPair.{DiskPair as ThePair};
 ghost use Rattle.rq_json.specs.Body.{texts_of};
-ghost use Rattle.rq_cluster.specs.Cluster.{Whole, done};
-ghost use Rattle.rq_cluster.specs.Preparing.{AreRead};
-ghost use Rattle.rq_cluster.specs.ReadLine.{line_read};
-ghost use Rattle.rq_cluster.specs.ScriptLine as lines;
-ghost use Rattle.rq_cluster.specs.World.{World as TheWorld, first_world, Steps, IsOutside, MayReach, IsStarted, ending, Leads, Breaks, PairKept, Holds};
+ghost use Rattle.rq_node.specs.Sound.{IsReadable};
+ghost use Rattle.rq_script.specs.Cluster.{Cluster as TheCluster, Steps, IsOutside, MayReach};
+ghost use Rattle.rq_script.specs.Preparing.{AreRead};
+ghost use Rattle.rq_script.specs.ReadLine.{line_read, HasPick};
+ghost use Rattle.rq_script.specs.ScriptLine as lines;
+ghost use Rattle.rq_script.specs.ScriptText.{pending_text};
+ghost use Rattle.rq_cluster.specs.Shown.{ServerReady, IsReady, ShowsCluster, Shows, Does, Breaks, DoesLine, IsOutsideHere, BreaksLine, pending_in};
+ghost use Rattle.rq_cluster.specs.Standing.{Holds};
 ghost use Rattle.rq_cluster.specs.declared.line_error.LineError.TheVariants.{Outside, NoMemory as OutOfMemory};
 
+use crate::arming::Arming;
 use crate::host::Host;
 use crate::line_error::LineError;
-use crate::script::{ScriptLine, script_line};
-use rq_engine::Item;
-use rq_json::statements_of;
-use rq_outside::{Disk, DiskPair};
-use rq_settle::prepare;
-use rq_values::{Id, NoMemory, Seq, Text};
+use crate::preparing::items_of;
+use crate::standing::shown_clusters_stand;
+use rq_outside::{CrashDisk, DiskPair};
+use rq_script::{ScriptLine, script_line};
+use rq_values::{Id, NoMemory};
+use rq_wal::current_logs_stand;
 use std::alloc::Global;
-use std::marker::Model;
 
 /// The cluster of a script.
 #[derive(Drop)]
@@ -27,24 +31,11 @@ pub struct World {
     asks: u64,
 }
 
-impl Model for World {
-    ghost use Rattle.std.specs.Prelude.{option_and_then};
-    ghost use Rattle.std.specs.Option.{option_map};
-    ghost use Rattle.rq_cluster.specs.Hosting.{server_of, file_of};
-    ghost use Rattle.rq_cluster.specs.World.{World};
-
-    ghost Value = { World };
-
-    ghost view = { λ w. record {
-      cluster = record { server = option_map server_of w.host; asks = w.asks };
-      file = option_and_then file_of w.host;
-    } };
-}
-
 impl World {
     /// The world before the first line.
     pub fn new() -> World
-        ensures { result ≡ first_world }
+        ensures host { result.host ≡ None }
+        ensures asks { result.asks ≡ 0 }
     {
         World {
             host: None,
@@ -54,30 +45,32 @@ impl World {
 
     /// Whether the cluster line was there.
     pub fn is_started(&self) -> bool
-        ensures { IsTrue result ↔ IsStarted self.now }
+        ensures { result ≡ is_some self.now.host }
     {
         self.host.is_some()
     }
 
     /// Does a line, and appends its text.
-    pub fn step<D: Disk>(
+    pub fn step<D: CrashDisk>(
         &mut self,
         alloc: Global,
         disks: &mut Vec<DiskPair<D>>,
         line: &[u8],
         text: &mut Vec<u8>,
     ) -> Result<(), LineError>
-        requires holds { Holds D.told D.means disks.old.items self.old }
-        ensures ok { OnOk result ((written : List ℕ) × Steps self.old line.now written self.new × (text.new.items ≡ text.old.items ++ written) × Holds D.told D.means disks.new.items self.new) }
-        ensures outside { IsErrOf result Outside → IsOutside self.old line.now × Holds D.told D.means disks.new.items self.old }
-        ensures broken { IsErrOf result OutOfMemory → (reached : TheWorld) × MayReach self.old line.now reached × Holds D.told D.means disks.new.items reached }
+        requires ready { IsReady D.told D.means disks.old.items self.old }
+        ensures ok { OnOk result ((start : List (ThePair D D.Fault)) (c : TheCluster) → Shows D.told D.means start disks.old.items self.old c → (next : TheCluster) × (written : List ℕ) × Steps c line.now written next × (text.new.items ≡ text.old.items ++ written) × Shows D.told D.means start disks.new.items self.new next) }
+        ensures ready { OnOk result (IsReady D.told D.means disks.new.items self.new) }
+        ensures outside { IsErrOf result Outside → (start : List (ThePair D D.Fault)) (c : TheCluster) → Shows D.told D.means start disks.old.items self.old c → IsOutside c line.now × Holds D.told D.means start disks.new.items c }
+        ensures broken { IsErrOf result OutOfMemory → (start : List (ThePair D D.Fault)) (c : TheCluster) → Shows D.told D.means start disks.old.items self.old c → (reached : TheCluster) × MayReach c line.now reached × Holds D.told D.means start disks.new.items reached }
     {
+        shown_clusters_stand::<D>();
         self.step_on(alloc, &mut disks[0], line, text)
     }
 
     /// Appends what is written at the script's end.
     pub fn write_ending(&self, alloc: Global, text: &mut Vec<u8>) -> Result<(), NoMemory>
-        ensures { OnOk result (text.new.items ≡ text.old.items ++ ending self.now) }
+        ensures { OnOk result (text.new.items ≡ text.old.items ++ flat_map pending_text (pending_in self.now.host)) }
     {
         match &self.host {
             Some(host) => host.write_pending(alloc, text),
@@ -86,40 +79,41 @@ impl World {
     }
 
     /// Does a line at the pair of the one server.
-    fn step_on<D: Disk>(
+    fn step_on<D: CrashDisk>(
         &mut self,
         alloc: Global,
         disks: &mut DiskPair<D>,
         line: &[u8],
         text: &mut Vec<u8>,
     ) -> Result<(), LineError>
-        requires kept { PairKept D.told D.means disks.old self.old }
-        ensures ok { OnOk result ((written : List ℕ) × Steps self.old line.now written self.new × (text.new.items ≡ text.old.items ++ written)) }
-        ensures kept { OnOk result (PairKept D.told D.means disks.new self.new) }
-        ensures outside { IsErrOf result Outside → IsOutside self.old line.now }
+        requires ready { ServerReady D.told D.means disks.old self.old.host }
+        ensures ok { OnOk result (Does D.told D.means line.now disks.old disks.new self.old self.new text.old.items text.new.items) }
+        ensures ready { OnOk result (ServerReady D.told D.means disks.new self.new.host) }
+        ensures outside { IsErrOf result Outside → (start : ThePair D D.Fault) (c : TheCluster) → ShowsCluster D.told D.means start disks.old self.old c → IsOutside c line.now }
         ensures untouched { IsErrOf result Outside → disks.new ≡ disks.old }
-        ensures broken { IsErrOf result OutOfMemory → (reached : TheWorld) × MayReach self.old line.now reached × PairKept D.told D.means disks.new reached }
+        ensures broken { IsErrOf result OutOfMemory → Breaks D.told D.means line.now disks.old disks.new self.old }
     {
-        match &script_line(line) {
-            Some(line) => self.do_line(alloc, disks, line, text),
+        match script_line(line) {
+            Some(line) => self.do_line(alloc, disks, &line, text),
             None => Err(LineError::Outside),
         }
     }
 
     /// Does a line that was read.
-    fn do_line<D: Disk>(
+    fn do_line<D: CrashDisk>(
         &mut self,
         alloc: Global,
         disks: &mut DiskPair<D>,
         line: &ScriptLine<'_>,
         text: &mut Vec<u8>,
     ) -> Result<(), LineError>
-        requires kept { PairKept D.told D.means disks.old self.old }
-        ensures ok { OnOk result (Leads self.old.cluster (line_read line.now) text.old.items text.new.items self.new.cluster) }
-        ensures kept { OnOk result (PairKept D.told D.means disks.new self.new) }
-        ensures outside { IsErrOf result Outside → done [] Whole self.old.cluster (line_read line.now) ≡ None }
+        requires ready { ServerReady D.told D.means disks.old self.old.host }
+        requires pick { HasPick line.now }
+        ensures ok { OnOk result (DoesLine D.told D.means (line_read line.now) disks.old disks.new self.old self.new text.old.items text.new.items) }
+        ensures ready { OnOk result (ServerReady D.told D.means disks.new self.new.host) }
+        ensures outside { IsErrOf result Outside → IsOutsideHere D.told D.means (line_read line.now) disks.old self.old }
         ensures untouched { IsErrOf result Outside → disks.new ≡ disks.old }
-        ensures broken { IsErrOf result OutOfMemory → Breaks D.told D.means disks.new self.old.cluster (line_read line.now) }
+        ensures broken { IsErrOf result OutOfMemory → BreaksLine D.told D.means (line_read line.now) disks.old disks.new self.old }
     {
         match line {
             ScriptLine::Skip => Ok(()),
@@ -128,45 +122,51 @@ impl World {
             ScriptLine::Apply { id } => self.apply(alloc, disks, *id, text),
             ScriptLine::Execute { id, body } => self.execute(alloc, disks, *id, body, text),
             ScriptLine::Query { id, body } => self.query(alloc, disks, *id, body, text),
+            ScriptLine::Stop { id } => self.stop(disks, *id, text),
+            ScriptLine::StopWithin { id, calls, pick } => self.arm(disks, *id, *calls, *pick),
+            ScriptLine::Start { id } => self.start(alloc, disks, *id, text),
+            ScriptLine::Show { id } => self.show(alloc, disks, *id, text),
         }
     }
 
     /// Makes the cluster, once.
-    fn found<D: Disk>(
+    fn found<D: CrashDisk>(
         &mut self,
         alloc: Global,
         disks: &mut DiskPair<D>,
         id: Id,
         text: &mut Vec<u8>,
     ) -> Result<(), LineError>
-        requires kept { PairKept D.told D.means disks.old self.old }
-        ensures ok { OnOk result (Leads self.old.cluster (lines.Cluster id) text.old.items text.new.items self.new.cluster) }
-        ensures kept { OnOk result (PairKept D.told D.means disks.new self.new) }
-        ensures outside { IsErrOf result Outside → done [] Whole self.old.cluster (lines.Cluster id) ≡ None }
+        requires ready { ServerReady D.told D.means disks.old self.old.host }
+        ensures ok { OnOk result (DoesLine D.told D.means (lines.Cluster id) disks.old disks.new self.old self.new text.old.items text.new.items) }
+        ensures ready { OnOk result (ServerReady D.told D.means disks.new self.new.host) }
+        ensures outside { IsErrOf result Outside → IsOutsideHere D.told D.means (lines.Cluster id) disks.old self.old }
         ensures untouched { IsErrOf result Outside → disks.new ≡ disks.old }
-        ensures broken { IsErrOf result OutOfMemory → Breaks D.told D.means disks.new self.old.cluster (lines.Cluster id) }
+        ensures broken { IsErrOf result OutOfMemory → BreaksLine D.told D.means (lines.Cluster id) disks.old disks.new self.old }
     {
         if self.host.is_some() {
             return Err(LineError::Outside);
         }
-        self.host = Some(Host::start(alloc, disks, id, text)?);
+        let mut host = Host::new(alloc, id);
+        host.start(alloc, disks, text)?;
+        self.host = Some(host);
         Ok(())
     }
 
     /// Lets the node with this id stand for election.
-    fn elect<D: Disk>(
+    fn elect<D: CrashDisk>(
         &mut self,
         alloc: Global,
         disks: &mut DiskPair<D>,
         id: Id,
         text: &mut Vec<u8>,
     ) -> Result<(), LineError>
-        requires kept { PairKept D.told D.means disks.old self.old }
-        ensures ok { OnOk result (Leads self.old.cluster (lines.Elect id) text.old.items text.new.items self.new.cluster) }
-        ensures kept { OnOk result (PairKept D.told D.means disks.new self.new) }
-        ensures outside { IsErrOf result Outside → done [] Whole self.old.cluster (lines.Elect id) ≡ None }
+        requires ready { ServerReady D.told D.means disks.old self.old.host }
+        ensures ok { OnOk result (DoesLine D.told D.means (lines.Elect id) disks.old disks.new self.old self.new text.old.items text.new.items) }
+        ensures ready { OnOk result (ServerReady D.told D.means disks.new self.new.host) }
+        ensures outside { IsErrOf result Outside → IsOutsideHere D.told D.means (lines.Elect id) disks.old self.old }
         ensures untouched { IsErrOf result Outside → disks.new ≡ disks.old }
-        ensures broken { IsErrOf result OutOfMemory → Breaks D.told D.means disks.new self.old.cluster (lines.Elect id) }
+        ensures broken { IsErrOf result OutOfMemory → BreaksLine D.told D.means (lines.Elect id) disks.old disks.new self.old }
     {
         let Some(host) = &mut self.host else {
             return Err(LineError::Outside);
@@ -179,19 +179,21 @@ impl World {
     }
 
     /// Lets the node with this id apply what is committed.
-    fn apply<D: Disk>(
+    fn apply<D: CrashDisk>(
         &mut self,
         alloc: Global,
         disks: &mut DiskPair<D>,
         id: Id,
         text: &mut Vec<u8>,
     ) -> Result<(), LineError>
-        requires kept { PairKept D.told D.means disks.old self.old }
-        ensures ok { OnOk result (Leads self.old.cluster (lines.Apply id) text.old.items text.new.items self.new.cluster) }
-        ensures kept { OnOk result (PairKept D.told D.means disks.new self.new) }
-        ensures outside { IsErrOf result Outside → done [] Whole self.old.cluster (lines.Apply id) ≡ None }
-        ensures untouched { disks.new ≡ disks.old }
+        requires ready { ServerReady D.told D.means disks.old self.old.host }
+        ensures ok { OnOk result (DoesLine D.told D.means (lines.Apply id) disks.old disks.new self.old self.new text.old.items text.new.items) }
+        ensures ready { OnOk result (ServerReady D.told D.means disks.new self.new.host) }
+        ensures outside { IsErrOf result Outside → IsOutsideHere D.told D.means (lines.Apply id) disks.old self.old }
+        ensures untouched { IsErrOf result Outside → disks.new ≡ disks.old }
+        ensures broken { IsErrOf result OutOfMemory → BreaksLine D.told D.means (lines.Apply id) disks.old disks.new self.old }
     {
+        current_logs_stand::<D>();
         let Some(host) = &mut self.host else {
             return Err(LineError::Outside);
         };
@@ -204,7 +206,7 @@ impl World {
     }
 
     /// Puts a list to the node with this id.
-    fn execute<D: Disk>(
+    fn execute<D: CrashDisk>(
         &mut self,
         alloc: Global,
         disks: &mut DiskPair<D>,
@@ -212,13 +214,14 @@ impl World {
         body: &[u8],
         text: &mut Vec<u8>,
     ) -> Result<(), LineError>
-        requires kept { PairKept D.told D.means disks.old self.old }
-        ensures ok { OnOk result (Leads self.old.cluster (lines.Execute id body.now) text.old.items text.new.items self.new.cluster) }
-        ensures kept { OnOk result (PairKept D.told D.means disks.new self.new) }
-        ensures outside { IsErrOf result Outside → done [] Whole self.old.cluster (lines.Execute id body.now) ≡ None }
+        requires ready { ServerReady D.told D.means disks.old self.old.host }
+        ensures ok { OnOk result (DoesLine D.told D.means (lines.Execute id body.now) disks.old disks.new self.old self.new text.old.items text.new.items) }
+        ensures ready { OnOk result (ServerReady D.told D.means disks.new self.new.host) }
+        ensures outside { IsErrOf result Outside → IsOutsideHere D.told D.means (lines.Execute id body.now) disks.old self.old }
         ensures untouched { IsErrOf result Outside → disks.new ≡ disks.old }
-        ensures broken { IsErrOf result OutOfMemory → Breaks D.told D.means disks.new self.old.cluster (lines.Execute id body.now) }
+        ensures broken { IsErrOf result OutOfMemory → BreaksLine D.told D.means (lines.Execute id body.now) disks.old disks.new self.old }
     {
+        current_logs_stand::<D>();
         let Some(host) = &mut self.host else {
             return Err(LineError::Outside);
         };
@@ -235,7 +238,7 @@ impl World {
     }
 
     /// Puts queries to the node with this id.
-    fn query<D: Disk>(
+    fn query<D: CrashDisk>(
         &mut self,
         alloc: Global,
         disks: &mut DiskPair<D>,
@@ -243,12 +246,14 @@ impl World {
         body: &[u8],
         text: &mut Vec<u8>,
     ) -> Result<(), LineError>
-        requires kept { PairKept D.told D.means disks.old self.old }
-        ensures ok { OnOk result (Leads self.old.cluster (lines.Query id body.now) text.old.items text.new.items self.new.cluster) }
-        ensures kept { OnOk result (PairKept D.told D.means disks.new self.new) }
-        ensures outside { IsErrOf result Outside → done [] Whole self.old.cluster (lines.Query id body.now) ≡ None }
-        ensures untouched { disks.new ≡ disks.old }
+        requires ready { ServerReady D.told D.means disks.old self.old.host }
+        ensures ok { OnOk result (DoesLine D.told D.means (lines.Query id body.now) disks.old disks.new self.old self.new text.old.items text.new.items) }
+        ensures ready { OnOk result (ServerReady D.told D.means disks.new self.new.host) }
+        ensures outside { IsErrOf result Outside → IsOutsideHere D.told D.means (lines.Query id body.now) disks.old self.old }
+        ensures untouched { IsErrOf result Outside → disks.new ≡ disks.old }
+        ensures broken { IsErrOf result OutOfMemory → BreaksLine D.told D.means (lines.Query id body.now) disks.old disks.new self.old }
     {
+        current_logs_stand::<D>();
         let Some(host) = &mut self.host else {
             return Err(LineError::Outside);
         };
@@ -264,26 +269,115 @@ impl World {
         host.query(alloc, number, items.as_slice(), text)?;
         Ok(())
     }
-}
 
-/// The prepared statements of a body, or None exactly where it is no list of them.
-fn items_of(alloc: Global, body: &[u8]) -> Result<Option<Seq<Item>>, NoMemory>
-    ensures { IfOk result (λ items. MatchOption items (texts_of body.now ≡ None) (λ list. (texts : List (List ℕ)) × (texts_of body.now ≡ Some texts) × AreRead texts list)) }
-{
-    match statements_of(alloc, body)? {
-        Some(texts) => Ok(Some(prepared_all(alloc, texts.as_slice())?)),
-        None => Ok(None),
+    /// Stops the node with this id at once.
+    fn stop<D: CrashDisk>(
+        &mut self,
+        disks: &mut DiskPair<D>,
+        id: Id,
+        text: &mut Vec<u8>,
+    ) -> Result<(), LineError>
+        requires ready { ServerReady D.told D.means disks.old self.old.host }
+        ensures ok { OnOk result (DoesLine D.told D.means (lines.Stop id) disks.old disks.new self.old self.new text.old.items text.new.items) }
+        ensures ready { OnOk result (ServerReady D.told D.means disks.new self.new.host) }
+        ensures outside { IsErrOf result Outside → IsOutsideHere D.told D.means (lines.Stop id) disks.old self.old }
+        ensures untouched { IsErrOf result Outside → disks.new ≡ disks.old }
+        ensures broken { IsErrOf result OutOfMemory → BreaksLine D.told D.means (lines.Stop id) disks.old disks.new self.old }
+    {
+        let Some(host) = &mut self.host else {
+            return Err(LineError::Outside);
+        };
+        if *host.id() != id {
+            return Err(LineError::Outside);
+        }
+        if !host.is_running() {
+            return Err(LineError::Outside);
+        }
+        host.stop(disks, text)?;
+        Ok(())
     }
-}
 
-/// The statements, prepared.
-#[tactic(auto, using(crate::proofs::Readings::none_read, crate::proofs::Readings::one_more_read))]
-fn prepared_all(alloc: Global, texts: &[Text]) -> Result<Seq<Item>, NoMemory>
-    ensures { IfOk result (λ items. AreRead texts.now items) }
-{
-    let mut items = Seq::new(alloc);
-    for text in texts {
-        items.push(prepare(alloc, text.bytes())?)?;
+    /// Lets the node with this id go down in the event that needs more than so many changing calls.
+    fn arm<D: CrashDisk>(
+        &mut self,
+        disks: &mut DiskPair<D>,
+        id: Id,
+        calls: u64,
+        pick: u8,
+    ) -> Result<(), LineError>
+        requires ready { ServerReady D.told D.means disks.old self.old.host }
+        requires pick { pick < 4 }
+        ensures ok { OnOk result (DoesLine D.told D.means (lines.StopWithin id calls pick) disks.old disks.new self.old self.new [] []) }
+        ensures ready { OnOk result (ServerReady D.told D.means disks.new self.new.host) }
+        ensures outside { IsErrOf result Outside → IsOutsideHere D.told D.means (lines.StopWithin id calls pick) disks.old self.old }
+        ensures untouched { IsErrOf result Outside → disks.new ≡ disks.old }
+        ensures broken { IsErrOf result OutOfMemory → BreaksLine D.told D.means (lines.StopWithin id calls pick) disks.old disks.new self.old }
+    {
+        let Some(host) = &mut self.host else {
+            return Err(LineError::Outside);
+        };
+        if *host.id() != id {
+            return Err(LineError::Outside);
+        }
+        if !host.is_running() {
+            return Err(LineError::Outside);
+        }
+        host.arm(disks, Arming { calls, pick });
+        Ok(())
     }
-    Ok(items)
+
+    /// Starts the node with this id, which is down.
+    fn start<D: CrashDisk>(
+        &mut self,
+        alloc: Global,
+        disks: &mut DiskPair<D>,
+        id: Id,
+        text: &mut Vec<u8>,
+    ) -> Result<(), LineError>
+        requires ready { ServerReady D.told D.means disks.old self.old.host }
+        ensures ok { OnOk result (DoesLine D.told D.means (lines.Start id) disks.old disks.new self.old self.new text.old.items text.new.items) }
+        ensures ready { OnOk result (ServerReady D.told D.means disks.new self.new.host) }
+        ensures outside { IsErrOf result Outside → IsOutsideHere D.told D.means (lines.Start id) disks.old self.old }
+        ensures untouched { IsErrOf result Outside → disks.new ≡ disks.old }
+        ensures broken { IsErrOf result OutOfMemory → BreaksLine D.told D.means (lines.Start id) disks.old disks.new self.old }
+    {
+        let Some(host) = &mut self.host else {
+            return Err(LineError::Outside);
+        };
+        if *host.id() != id {
+            return Err(LineError::Outside);
+        }
+        if host.is_running() {
+            return Err(LineError::Outside);
+        }
+        host.start(alloc, disks, text)?;
+        Ok(())
+    }
+
+    /// Prints the node with this id.
+    fn show<D: CrashDisk>(
+        &mut self,
+        alloc: Global,
+        disks: &mut DiskPair<D>,
+        id: Id,
+        text: &mut Vec<u8>,
+    ) -> Result<(), LineError>
+        requires ready { ServerReady D.told D.means disks.old self.old.host }
+        ensures ok { OnOk result (DoesLine D.told D.means (lines.Show id) disks.old disks.new self.old self.new text.old.items text.new.items) }
+        ensures ready { OnOk result (ServerReady D.told D.means disks.new self.new.host) }
+        ensures outside { IsErrOf result Outside → IsOutsideHere D.told D.means (lines.Show id) disks.old self.old }
+        ensures untouched { IsErrOf result Outside → disks.new ≡ disks.old }
+        ensures broken { IsErrOf result OutOfMemory → BreaksLine D.told D.means (lines.Show id) disks.old disks.new self.old }
+    {
+        current_logs_stand::<D>();
+        let Some(host) = &mut self.host else {
+            return Err(LineError::Outside);
+        };
+        if *host.id() != id {
+            return Err(LineError::Outside);
+        }
+        let _disks = disks;
+        host.show(alloc, text)?;
+        Ok(())
+    }
 }

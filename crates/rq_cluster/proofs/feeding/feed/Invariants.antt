@@ -1,14 +1,14 @@
 use Rattle.std.proofs.Common.{◌≡◌, ◌≤◌, ◌+◌, ◌-◌, length, take}
-use Rattle.rq_cluster.specs.World.{Holds}
 use Rattle.rq_cluster.specs.Feed.{GoesOn}
+use Rattle.rq_cluster.specs.Shown.{IsReady}
 use Rattle.rq_cluster.proofs.feeding.feed.Given as goal
 
 abbrev pub invariant-loop-fed : goal.invariant-loop-fed
 invariant-loop-fed g l = record {
   within : l.fed ≤ length l.piece;
-  goes : GoesOn g.K.Sink.told (g.K.Sink.taken l.fn.sink) (g.K.Sink.taken l.sink) l.fn.progress l.progress (take l.fed l.piece);
+  goes : GoesOn g.D.Disk.told g.D.Disk.means l.fn.disks.items l.disks.items g.K.Sink.told (g.K.Sink.taken l.fn.sink) (g.K.Sink.taken l.sink) l.fn.progress l.progress (take l.fed l.piece);
   read : l.progress.read ≡ l.fn.progress.read + l.fed;
-  files : Holds g.D.Disk.told g.D.Disk.means l.disks.items l.progress.world;
+  ready : IsReady g.D.Disk.told g.D.Disk.means l.disks.items l.progress.world;
   later : g.K.Sink.faults l.fn.sink ≤ g.K.Sink.faults l.sink;
 }
 

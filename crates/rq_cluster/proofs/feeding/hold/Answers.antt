@@ -1,41 +1,35 @@
-use Rattle.std.proofs.Common.{◌+◌, ◌++◌, List, ℕ, length, sym, subst, arith, refl, inl, inr}
-use Rattle.rq_cluster.specs.Lines.{lines_of}
-use Rattle.rq_cluster.specs.Runs.{StopsAt}
-use Rattle.rq_cluster.specs.Feed.{After, IsBetween}
+use Rattle.std.proofs.Common.{◌+◌, ◌++◌, List, ℕ, length, sym, subst, arith, inl, inr}
+use Rattle.rq_cluster.specs.Feed.{After}
 use Rattle.rq_cluster.proofs.Cutting.{bytes_held, over_out, between}
-use Rattle.rq_cluster.proofs.Pieces.{unwritten}
 use Rattle.rq_cluster.proofs.feeding.hold.Goals as goal
 
 pub returns-then-count-progress-clause-outside : goal.returns-then-count-progress-clause-outside
-returns-then-count-progress-clause-outside c is rest told taken read text s =
+returns-then-count-progress-clause-outside c is rest read text w s =
     let sh = c.args.progress.now in
-    unwritten told taken taken (λ t. StopsAt (lines_of (read ++ (c.args.bytes.now ++ rest))) sh.number t sh.world) text (λ t. refl)
-    (over_out c.args.bytes.now rest read text sh.world sh.number sh.held.items sh.read s c.requires (omega (arith, sh.within, c.if-count-progress.true)) (inr (omega (arith, sh.within, c.if-count-progress.true))))
+    over_out c.args.bytes.now rest read text w sh.number sh.held.items sh.read s c.requires (omega (arith, sh.within, c.if-count-progress.true)) (inr (omega (arith, sh.within, c.if-count-progress.true)))
 
 pub returns-then-count-progress-clause-part : goal.returns-then-count-progress-clause-part
-returns-then-count-progress-clause-part c rest told taken read text s =
+returns-then-count-progress-clause-part c rest read text w s =
     let sh = c.args.progress.now in
-    unwritten told taken taken (IsBetween sh.world (lines_of (read ++ (c.args.bytes.now ++ rest)))) text (λ t. refl) (between read text sh.world sh.number sh.held.items sh.read s (c.args.bytes.now ++ rest))
+    between read text w sh.number sh.held.items sh.read s (c.args.bytes.now ++ rest)
 
 pub returns-then-len-bytes-clause-outside : goal.returns-then-len-bytes-clause-outside
-returns-then-len-bytes-clause-outside c is rest told taken read text s =
+returns-then-len-bytes-clause-outside c is rest read text w s =
     let sh = c.args.progress.now in
-    unwritten told taken taken (λ t. StopsAt (lines_of (read ++ (c.args.bytes.now ++ rest))) sh.number t sh.world) text (λ t. refl)
-    (over_out c.args.bytes.now rest read text sh.world sh.number sh.held.items sh.read s c.requires (omega (arith, sh.held.ok.0, c.len.ensures, c.if-len-bytes.true)) (inl (omega (arith, sh.held.ok.0, c.len.ensures, c.if-len-bytes.true))))
+    over_out c.args.bytes.now rest read text w sh.number sh.held.items sh.read s c.requires (omega (arith, sh.held.ok.0, c.len.ensures, c.if-len-bytes.true)) (inl (omega (arith, sh.held.ok.0, c.len.ensures, c.if-len-bytes.true)))
 
 pub returns-then-len-bytes-clause-part : goal.returns-then-len-bytes-clause-part
-returns-then-len-bytes-clause-part c rest told taken read text s =
+returns-then-len-bytes-clause-part c rest read text w s =
     let sh = c.args.progress.now in
-    unwritten told taken taken (IsBetween sh.world (lines_of (read ++ (c.args.bytes.now ++ rest)))) text (λ t. refl) (between read text sh.world sh.number sh.held.items sh.read s (c.args.bytes.now ++ rest))
+    between read text w sh.number sh.held.items sh.read s (c.args.bytes.now ++ rest)
 
 pub returns-in-Err-clause-part : goal.returns-in-Err-clause-part
-returns-in-Err-clause-part c rest told taken read text s =
+returns-in-Err-clause-part c rest read text w s =
     let sh = c.args.progress.now in
-    unwritten told taken taken (IsBetween sh.world (lines_of (read ++ (c.args.bytes.now ++ rest)))) text (λ t. refl) (between read text sh.world sh.number sh.held.items sh.read s (c.args.bytes.now ++ rest))
+    between read text w sh.number sh.held.items sh.read s (c.args.bytes.now ++ rest)
 
 pub returns-in-Ok-clause-ok : goal.returns-in-Ok-clause-ok
-returns-in-Ok-clause-ok c told taken read text s =
+returns-in-Ok-clause-ok c read text w s =
     let sh = c.args.progress.now in
     let bytes = c.args.bytes.now in
-    unwritten told taken taken (λ t. After (read ++ bytes) t sh.world sh.number c.extend_from_slice.new.self.items (sh.read + length bytes)) text (λ t. refl)
-    (subst (λ (h : List ℕ). After (read ++ bytes) text sh.world sh.number h (sh.read + length bytes)) (sym c.in-Ok.ensures.items) (bytes_held bytes read text sh.world sh.number sh.held.items sh.read s c.requires))
+    subst (λ (h : List ℕ). After (read ++ bytes) text w sh.number h (sh.read + length bytes)) (sym c.in-Ok.ensures.items) (bytes_held bytes read text w sh.number sh.held.items sh.read s c.requires)

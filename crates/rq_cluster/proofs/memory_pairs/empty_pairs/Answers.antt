@@ -1,11 +1,11 @@
 use Rattle.std.proofs.Common.{true, sym, subst}
-use Rattle.rq_cluster.specs.World.{AreNew}
 use Rattle.rq_cluster.specs.EmptyPairs.{sure_means}
+use Rattle.rq_cluster.specs.Standing.{AreNew}
 use Rattle.rq_cluster.proofs.Emptiness.{nine}
 use Rattle.rq_cluster.proofs.memory_pairs.empty_pairs.Goals as goal
 
 pub returns-in-Ok : goal.returns-in-Ok
 returns-in-Ok c =
     subst (λ pairs. AreNew true sure_means pairs) (sym c.in-Ok.ensures.items)
-    (nine c.in_ok-empty_pair.field-0 c.in_ok-empty_pair-2.field-0 c.in_ok-empty_pair-3.field-0 c.in_ok-empty_pair-4.field-0 c.in_ok-empty_pair-5.field-0 c.in_ok-empty_pair-6.field-0 c.in_ok-empty_pair-7.field-0 c.in_ok-empty_pair-8.field-0 c.in_ok-empty_pair-9.field-0
+    (nine sure_means c.in_ok-empty_pair.field-0 c.in_ok-empty_pair-2.field-0 c.in_ok-empty_pair-3.field-0 c.in_ok-empty_pair-4.field-0 c.in_ok-empty_pair-5.field-0 c.in_ok-empty_pair-6.field-0 c.in_ok-empty_pair-7.field-0 c.in_ok-empty_pair-8.field-0 c.in_ok-empty_pair-9.field-0
     c.in_ok-empty_pair.ensures c.in_ok-empty_pair-2.ensures c.in_ok-empty_pair-3.ensures c.in_ok-empty_pair-4.ensures c.in_ok-empty_pair-5.ensures c.in_ok-empty_pair-6.ensures c.in_ok-empty_pair-7.ensures c.in_ok-empty_pair-8.ensures c.in_ok-empty_pair-9.ensures)

@@ -1,19 +1,17 @@
-use Rattle.rq_outside.specs.declared.pair.FileNo.TheVariants as file
-use Rattle.rq_cluster.proofs.Servers.{found_leads, found_new, found_breaks}
+use Rattle.std.proofs.Common.{refl, sym}
+use Rattle.rq_cluster.proofs.Servers.{none_of}
+use Rattle.rq_cluster.proofs.Worlds.{IsFresh, found_does, found_breaks}
 use Rattle.rq_cluster.proofs.world.World.found.Goals as goal
-
-pub start-requires-clause-one : goal.start-requires-clause-one
-start-requires-clause-one g c κs within =
-    found_new c.self.inside.host c.self.inside.asks c.args.self.now c.self.view_is c.if-is_some.ensures g.D.Disk.told g.D.Disk.means c.args.disks.now c.requires.kept file.One
-
-pub start-requires-clause-two : goal.start-requires-clause-two
-start-requires-clause-two g c κs within =
-    found_new c.self.inside.host c.self.inside.asks c.args.self.now c.self.view_is c.if-is_some.ensures g.D.Disk.told g.D.Disk.means c.args.disks.now c.requires.kept file.Two
-
-pub returns-in_err-start-clause-broken : goal.returns-in_err-start-clause-broken
-returns-in_err-start-clause-broken g c = λ _.
-    found_breaks c.self.inside.host c.self.inside.asks c.args.self.now c.self.view_is c.if-is_some.ensures g.D.Disk.told g.D.Disk.means c.start.new.disks c.args.id
 
 pub returns-clause-ok : goal.returns-clause-ok
 returns-clause-ok g c =
-    found_leads c.self.inside.host c.self.inside.asks c.args.self.now c.self.view_is c.if-is_some.ensures c.args.id c.in_ok-start.field-0 c.args.text.now.items c.start.new.text.items c.in_ok-start.ensures.ok
+    let fresh : IsFresh c.new-host.result c.args.id =
+    record { is_id = c.new-host.ensures.id; node = c.new-host.ensures.node; armed = c.new-host.ensures.armed; lost = c.new-host.ensures.lost; failures = c.new-host.ensures.failures } in
+    found_does g.D.Disk.told g.D.Disk.means c.args.disks.now c.start.new.disks c.args.self.now c.new-host.result c.args.id (none_of c.args.self.now.host (sym c.if-is_some.ensures)) fresh
+    _ c.start.new.self c.args.text.now.items c.start.new.text.items refl refl c.in_ok-start.ensures.ok
+
+pub returns-in_err-start-clause-broken : goal.returns-in_err-start-clause-broken
+returns-in_err-start-clause-broken g c = λ _.
+    let fresh : IsFresh c.new-host.result c.args.id =
+    record { is_id = c.new-host.ensures.id; node = c.new-host.ensures.node; armed = c.new-host.ensures.armed; lost = c.new-host.ensures.lost; failures = c.new-host.ensures.failures } in
+    found_breaks g.D.Disk.told g.D.Disk.means c.args.disks.now c.start.new.disks c.args.self.now c.new-host.result c.args.id (none_of c.args.self.now.host (sym c.if-is_some.ensures)) fresh c.in_err-start.ensures.broken

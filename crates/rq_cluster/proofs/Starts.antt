@@ -1,0 +1,238 @@
+-- Nodes that start, stop and are armed.
+use Rattle.std.proofs.Common.{◌≡◌, ◌⊎◌, inl, inr, ◌≤◌, ◌<◌, ◌+◌, ◌-◌, ◌^◌, ℕ, zero, suc, Bool, IsTrue, List, [], ◌∷◌, ◌++◌, length, take, Option, Some, None, Result, Ok, refl, sym, ◌∙◌, ap, subst, arith}
+use Rattle.std.specs.Prelude.{All}
+use Rattle.std.proofs.lemmas.List.{append-nil}
+use Rattle.std.proofs.lemmas.List.Elements.{All-take, All-cons, All-nil}
+use Rattle.rq_outside.specs.declared.pair.DiskPair.{DiskPair}
+use Rattle.rq_outside.specs.declared.pair.Arm.{Arm}
+use Rattle.rq_outside.specs.declared.pair.Arm.TheVariants.{Off, Passes, Struck}
+use Rattle.rq_outside.specs.Disk.{DiskMeaning}
+use Rattle.rq_outside.specs.Pair.{arm_of}
+use Rattle.rq_wal.specs.declared.file.WalFile.{WalFile}
+use Rattle.rq_wal.specs.declared.base.Base.{Base}
+use Rattle.rq_wal.specs.declared.base.Stored.{Stored}
+use Rattle.rq_wal.specs.Calls.{PassesMost}
+use Rattle.rq_wal.specs.Current.{EachImage, IsCurrent}
+use Rattle.rq_wal.specs.Later.{DeviceRose}
+use Rattle.rq_node.specs.declared.node.Node.{Node as RunningNode}
+use Rattle.rq_node.specs.declared.error.NodeError.{NodeError}
+use Rattle.rq_node.specs.declared.error.NodeError.TheVariants as errors
+use Rattle.rq_node.specs.Files.{first_base, stored_of, first_kept}
+use Rattle.rq_node.specs.Node.{Node, Kept, Durable, Boot, Turn, kept_of, kept_after}
+use Rattle.rq_node.specs.Rules.{started}
+use Rattle.rq_node.specs.Sound.{AreReadable}
+use Rattle.rq_node.specs.Standing.{HasFile, IsOpen, Stands, CanBeRead, IsSomeOf, IsItemReadable, FailedOpening}
+use Rattle.rq_script.specs.Cluster.{Stand, Running, Down, Armed, Server, Course, NoFault, Reading, Storing, gone_down, numbers, opens, new_server}
+use Rattle.rq_script.specs.ScriptText.{up_text, down_text}
+use Rattle.rq_cluster.specs.Acting.{Act, Crashed, start as start_act, stop as stop_act, arm as arm_act}
+use Rattle.rq_cluster.specs.declared.arming.Arming.{Arming}
+use Rattle.rq_cluster.specs.declared.host.Host.{Host}
+use Rattle.rq_cluster.specs.Shown.{ShowsServer, ShowsStand, IsArmed, LetsPass, armed_of}
+use Rattle.rq_cluster.specs.Standing.{Rises, StandsAs, ServerStands}
+use Rattle.rq_cluster.proofs.Pairs.{LogsStand, open_stands, SameDisks, NoFewer, fewer_same, rises_on, rises_more, stands_same}
+use Rattle.rq_cluster.proofs.Turns.{IsNode, IsDown, node_shown, down_shown}
+use Rattle.rq_cluster.proofs.Downs.{GoesDown, down_breaks, readable_after, settled, fewer_crashed, fewer_on}
+
+take_none : (k : ℕ) → take {A = Durable} k [] ≡ []
+take_none zero = refl
+take_none (suc k) = refl
+
+module _ {D F : Type 0} (told : Bool) (means : D → DiskMeaning) where
+  -- what a host shows stands in its pair
+  pub shows_stands : LogsStand F means → (start pair : DiskPair D F) (host : Host) (s : Server) → ShowsServer told means start pair host s → ServerStands told means start pair (Some s)
+  shows_stands law start pair host s shows = (by host.node s.stand shows.stand, shows.rises)
+    where
+      by : (o : Option RunningNode) (st : Stand) → ShowsStand told means pair s.id o st → StandsAs told means pair s.id st
+      by (Some node) (Running n) (state, named, opened) =
+          subst (λ (i : List ℕ). Stands told means pair i (kept_of n) []) named
+          (subst (λ (m : Node). Stands told means pair m.id (kept_of m) []) state (open_stands told means law pair node opened))
+      by None (Down kept rest) (stands, readable) = stands
+      by (Some node) (Down kept rest) nothing = absurd nothing
+      by None (Running n) nothing = absurd nothing
+
+  -- nothing has happened
+  pub breaks_before : LogsStand F means → (act : Act) (start pair : DiskPair D F) (host : Host) (s : Server) → ShowsServer told means start pair host s
+      → (reached : Server) × ((reached ≡ s) ⊎ ((course : Course) × (reached ≡ (act course s).0))) × ServerStands told means start pair (Some reached)
+  breaks_before law act start pair host s shows = (s, inl refl, shows_stands law start pair host s shows)
+
+  -- the event was done
+  pub breaks_after : LogsStand F means → (act : Act) (start pair : DiskPair D F) (host : Host) (s : Server) → (course : Course) × ShowsServer told means start pair host (act course s).0
+      → (reached : Server) × ((reached ≡ s) ⊎ ((course : Course) × (reached ≡ (act course s).0))) × ServerStands told means start pair (Some reached)
+  breaks_after law act start pair host s (course, shows) = ((act course s).0, inr (course, refl), shows_stands law start pair host (act course s).0 shows)
+
+  -- ---- starting
+
+  -- a pair that passes all calls isn't stopped by an opening
+  pub not_stopped : (mid new : DiskPair D F) (k : ℕ) → k ≤ 100 → arm_of mid ≡ Passes (2 ^ 64 - 1) → PassesMost k (arm_of mid) (arm_of new) → arm_of new ≡ Struck → ⊥
+  not_stopped mid new k small passing most struck =
+      let p : k ≤ 2 ^ 64 - 1 → (m : ℕ) × (arm_of new ≡ Passes m) × (2 ^ 64 - 1 ≤ m + k) = subst (λ (a : Arm). PassesMost k a (arm_of new)) passing most in
+      let q = p (omega (arith, small)) in
+      let e : Passes q.0 ≡ Struck = sym q.1 ∙ struck in absurd (cc)
+
+  module _ (start old : DiskPair D F) (from : Host) (s : Server) (shows : ShowsServer told means start old from s) (down : from.node ≡ None)
+      (mid new : DiskPair D F) (same : SameDisks old mid) (lets : LetsPass told means mid s.armed) (later : NoFewer told means mid new) (most : PassesMost 14 (arm_of mid) (arm_of new)) where
+    pub is_down : IsDown told means start old from s shows
+    is_down = down_shown told means start old from s shows down
+
+    pub unarmed : s.armed ≡ None
+    unarmed = shows.spent down
+
+    free : arm_of new ≡ Struck → ⊥
+    free = not_stopped mid new 14 (omega arith) (subst (λ (o : Option Armed). LetsPass told means mid o) unarmed lets) most
+
+    pub stood : Stands told means mid s.id is_down.kept is_down.rest
+    stood = stands_same told means old mid s.id is_down.kept is_down.rest same is_down.stands
+
+    was : Rises told means s.failures start mid
+    was = rises_on told means s.failures start old mid shows.rises (fewer_same told means old mid same)
+
+    abbrev opened_as : Course → Server × List ℕ
+    opened_as course = opens course s is_down.kept is_down.rest
+
+    starts_as : (course : Course) → start_act course s ≡ opened_as course
+    starts_as course =
+        ap (λ (st : Stand). start_act course (record s { stand = st })) is_down.stand
+        ∙ ap (λ (st : Stand). opens course (record s { stand = st }) is_down.kept is_down.rest) (sym is_down.stand)
+
+    -- the node runs
+    pub starts_running : (to : Host) (node : RunningNode) (before text : List ℕ) → to.id ≡ from.id → to.lost ≡ from.lost → to.failures ≡ from.failures → to.armed ≡ from.armed → to.node ≡ Some node
+        → ((k : ℕ) × (node.state ≡ (started s.id (kept_after is_down.kept (take k is_down.rest))).node)) → IsOpen told means new node → text ≡ before ++ up_text node.state
+        → (course : Course) × ShowsServer told means start new to (start_act course s).0 × (text ≡ before ++ (start_act course s).1)
+    starts_running to node before text id lost failures armed runs (k, state) opened text_is =
+        let course : Course = record { fault = NoFault; stands = k } in
+        let turn = started s.id (kept_after is_down.kept (take k is_down.rest)) in
+        let next : Server = record s { stand = Running turn.node } in
+        let shows_next : ShowsServer told means start new to next = record {
+          tells = shows.tells;
+          id = shows.id ∙ sym id;
+          lost = shows.lost ∙ ap (λ l. l.items) (sym lost);
+          failures = shows.failures ∙ sym failures;
+          armed = shows.armed ∙ ap armed_of (sym armed);
+          arm = subst (λ (o : Option Armed). IsArmed told means new o) (sym unarmed) free;
+          rises = rises_on told means s.failures start mid new was later;
+          stand = subst (λ (o : Option RunningNode). ShowsStand told means new s.id o (Running turn.node)) (sym runs) (state, refl, opened);
+          spent = λ none. (let e = sym runs ∙ none in absurd (cc));
+        } in
+        let so : ShowsServer told means start new to (start_act course s).0 × (text ≡ before ++ (start_act course s).1) =
+        subst (λ (t : Server × List ℕ). ShowsServer told means start new to t.0 × (text ≡ before ++ t.1)) (sym (starts_as course))
+        (shows_next, text_is ∙ ap (λ (n : Node). before ++ up_text n) state) in
+        (course, so.0, so.1)
+
+    -- a disk has failed
+    pub starts_down : DeviceRose means mid new ⊎ (arm_of new ≡ Struck) → FailedOpening told means new s.id is_down.kept is_down.rest → GoesDown told means start new start_act s [] (s.failures + 1)
+    starts_down cause failed = by failed
+      where
+        device : DeviceRose means mid new ⊎ (arm_of new ≡ Struck) → DeviceRose means mid new
+        device (inl rose) = rose
+        device (inr struck) = absurd (free struck)
+
+        by : FailedOpening told means new s.id is_down.kept is_down.rest → GoesDown told means start new start_act s [] (s.failures + 1)
+        by (inl stands) =
+            let course : Course = record { fault = Reading; stands = 0 } in
+            record {
+              course = course;
+              next = record s { failures = s.failures + 1 };
+              is = starts_as course;
+              id = refl;
+              armed = unarmed;
+              lost = sym (append-nil s.lost);
+              counted = refl;
+              kept = is_down.kept;
+              rest = is_down.rest;
+              stand = is_down.stand;
+              stands = stands;
+              readable = is_down.readable;
+              rises = rises_more told means s.failures start mid new was later (device cause);
+              arm = free;
+            }
+        by (inr (k, stands)) =
+            let course : Course = record { fault = Storing; stands = k } in
+            let settle = kept_after is_down.kept (take k is_down.rest) in
+            record {
+              course = course;
+              next = record s { stand = Down settle (started s.id settle).durable; failures = s.failures + 1 };
+              is = starts_as course;
+              id = refl;
+              armed = unarmed;
+              lost = sym (append-nil s.lost);
+              counted = refl;
+              kept = settle;
+              rest = (started s.id settle).durable;
+              stand = refl;
+              stands = stands;
+              readable = (readable_after (take k is_down.rest) is_down.kept is_down.readable.0 (All-take IsItemReadable k is_down.rest is_down.readable.1), boot_reads (settle.boot + 1));
+              rises = rises_more told means s.failures start mid new was later (device cause);
+              arm = free;
+            }
+          where
+            boot_reads : (boot : ℕ) → All IsItemReadable (Boot boot ∷ [])
+            boot_reads boot = All-cons IsItemReadable (Boot boot) [] tt (All-nil IsItemReadable)
+
+    -- want of memory
+    pub starts_not : (act : Act) → Stands told means new s.id is_down.kept is_down.rest
+        → (reached : Server) × ((reached ≡ s) ⊎ ((course : Course) × (reached ≡ (act course s).0))) × ServerStands told means start new (Some reached)
+    starts_not act stands = (s, inl refl, (subst (λ (st : Stand). StandsAs told means new s.id st) (sym is_down.stand) stands, rises_on told means s.failures start mid new was later))
+
+    -- any other refusal
+    pub starts_refused : (e : NodeError) → (e ≡ errors.Disk → DeviceRose means mid new ⊎ (arm_of new ≡ Struck)) → (e ≡ errors.Disk → FailedOpening told means new s.id is_down.kept is_down.rest)
+        → (e ≡ errors.Disk) ⊎ (Stands told means new from.id is_down.kept is_down.rest × ((e ≡ errors.NoMemory) ⊎ ((boot : ℕ) × (e ≡ errors.Ended boot))))
+        → (reached : Server) × ((reached ≡ s) ⊎ ((course : Course) × (reached ≡ (start_act course s).0))) × ServerStands told means start new (Some reached)
+    starts_refused e cause failed (inl disk) = down_breaks told means start new start_act s [] (s.failures + 1) (starts_down (cause disk) (failed disk))
+    starts_refused e cause failed (inr (stands, free_answer)) = starts_not start_act (subst (λ (i : List ℕ). Stands told means new i is_down.kept is_down.rest) (sym shows.id) stands)
+
+  -- ---- stopping at once
+
+  pub stops_down : LogsStand F means → (start old : DiskPair D F) (from : Host) (s : Server) (shows : ShowsServer told means start old from s) (new : DiskPair D F) (node : RunningNode)
+      → from.node ≡ Some node → Crashed told means old new → AreReadable node.state.log → GoesDown told means start new stop_act s (numbers node.state.waiting) s.failures
+  stops_down law start old from s shows new node runs crash log =
+      let shown = node_shown told means start old from s shows node runs in
+      let n = shown.n in
+      let stood : Stands told means old s.id (kept_of n) [] = subst (λ (i : List ℕ). Stands told means old i (kept_of n) []) shown.named
+      (subst (λ (m : Node). Stands told means old m.id (kept_of m) []) shown.state (open_stands told means law old node shown.opened)) in
+      let settle = settled told means old new s.id (kept_of n) [] shows.tells crash stood in
+      record {
+        course = record { fault = NoFault; stands = 0 };
+        next = gone_down s n (kept_of n) [] [];
+        is = ap (λ (st : Stand). stop_act (record { fault = NoFault; stands = 0 }) (record s { stand = st })) shown.stand;
+        id = refl;
+        armed = refl;
+        lost = ap (λ (l : List ℕ). s.lost ++ l) (append-nil (numbers n.waiting) ∙ ap (λ (m : Node). numbers m.waiting) (sym shown.state));
+        counted = refl;
+        kept = kept_of n;
+        rest = [];
+        stand = refl;
+        stands = subst (λ (d : List Durable). Stands told means new s.id (kept_after (kept_of n) d) []) (take_none settle.0) settle.1;
+        readable = (subst (λ (m : Node). AreReadable m.log) shown.state log, all_none);
+        rises = rises_on told means s.failures start old new shows.rises (fewer_crashed told means old new crash);
+        arm = λ stop. (let e : Off ≡ Struck = sym crash.arm ∙ stop in absurd (cc));
+      }
+    where
+      all_none : All IsItemReadable []
+      all_none = All-nil IsItemReadable
+
+  -- ---- arming
+
+  pub arms_server : (start old : DiskPair D F) (from to : Host) (s : Server) (shows : ShowsServer told means start old from s) (new : DiskPair D F) (node : RunningNode) (arming : Arming)
+      → SameDisks old new → from.node ≡ Some node → to ≡ record from { armed = Some arming } → ((arm_of old ≡ Struck → ⊥) → arm_of new ≡ Passes arming.calls) → IsOpen told means new node
+      → (bytes : List ℕ) → (course : Course) × ShowsServer told means start new to (arm_act arming.calls arming.pick course s).0 × (bytes ≡ bytes ++ (arm_act arming.calls arming.pick course s).1)
+  arms_server start old from to s shows new node arming same runs is armed opened bytes =
+      let shown = node_shown told means start old from s shows node runs in
+      let next : Server = (arm_act arming.calls arming.pick (record { fault = NoFault; stands = 0 }) s).0 in
+      let not_struck : arm_of old ≡ Struck → ⊥ = unstruck s.armed shows.arm in
+      let shows_next : ShowsServer told means start new (record from { armed = Some arming }) next = record {
+        tells = shows.tells;
+        id = shows.id;
+        lost = shows.lost;
+        failures = shows.failures;
+        armed = refl;
+        arm = armed not_struck;
+        rises = rises_on told means s.failures start old new shows.rises (fewer_same told means old new same);
+        stand = subst (λ (o : Option RunningNode). ShowsStand told means new s.id o s.stand) (sym runs)
+            (subst (λ (st : Stand). ShowsStand told means new s.id (Some node) st) (sym shown.stand) (shown.state, shown.named, opened));
+        spent = λ none. (let e = sym runs ∙ none in absurd (cc));
+      } in
+      (record { fault = NoFault; stands = 0 }, subst (λ (h : Host). ShowsServer told means start new h next) (sym is) shows_next, sym (append-nil bytes))
+    where
+      unstruck : (o : Option Armed) → IsArmed told means old o → arm_of old ≡ Struck → ⊥
+      unstruck None is struck = is struck
+      unstruck (Some a) is struck = let e : Passes a.calls ≡ Struck = sym is ∙ struck in absurd (cc)

@@ -1,9 +1,0 @@
-use Rattle.std.proofs.Common.{◌≡◌, ◌-◌, []}
-use Rattle.rq_cluster.specs.Rules.{apply, apply_times}
-use Rattle.rq_cluster.proofs.node.State.apply.Given as goal
-
-abbrev pub invariant-loop-self : goal.invariant-loop-self
-invariant-loop-self l = apply_times (l.self.commit - l.self.applied) (record { node = l.self; stored = []; answers = l.answers }) ≡ apply l.fn.self
-
-abbrev pub decreases-loop-self : goal.decreases-loop-self
-decreases-loop-self l = l.self.commit - l.self.applied

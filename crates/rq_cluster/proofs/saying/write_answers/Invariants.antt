@@ -1,6 +1,0 @@
-use Rattle.std.proofs.Common.{◌≡◌, ◌++◌, take}
-use Rattle.rq_cluster.specs.ScriptText.{answers_text}
-use Rattle.rq_cluster.proofs.saying.write_answers.Given as goal
-
-abbrev pub invariant-loop-answer : goal.invariant-loop-answer
-invariant-loop-answer l = l.text.items ≡ l.initial.text.items ++ answers_text (take l.answer-index l.answers)

@@ -1,0 +1,181 @@
+//! A line's text is written before the next line is done, and files are written at each event.
+ghost use Rattle.std.specs.Prelude.{true, IfOk};
+ghost use Rattle.rq_outside.specs.Memory.{journal_means};
+ghost use Rattle.rq_cluster.specs.declared.order_tests.CountedDisk.{CountedDisk as Counted};
+ghost use Rattle.rq_cluster.specs.Standing.{IsNew, AreNew};
+
+use super::*;
+use crate::memory_pairs::empty_disk;
+use rq_outside::{
+    CrashDisk, Disk, DiskPair, Failed, Sink, SinkError, SureDisk, SureDraws, SureSource, Word,
+};
+use rq_values::NoMemory;
+use std::alloc::Global;
+use std::cell::Cell;
+use std::test::Fail;
+
+/// A disk that never fails and counts its syncs.
+#[derive(Drop)]
+struct CountedDisk<'a> {
+    disk: SureDisk,
+    syncs: &'a Cell<u64>,
+}
+
+impl Disk for CountedDisk<'_> {
+    ghost use Rattle.rq_outside.specs.MemDisk.{journal_reads, journal_counts, journal_only};
+
+    ghost told = { true };
+
+    ghost means = { λ disk. journal_means disk.disk.journal 0 };
+
+    type Fault = ();
+
+    fn fault(&self) -> Option<()> {
+        self.disk.fault()
+    }
+
+    fn ready(&mut self, bytes: u64, calls: u32) -> Result<(), NoMemory> {
+        self.disk.ready(bytes, calls)
+    }
+
+    fn len(&mut self) -> Result<u64, Failed> {
+        self.disk.len()
+    }
+
+    fn read(&mut self, at: u64, into: &mut [u8]) -> Result<usize, Failed> {
+        self.disk.read(at, into)
+    }
+
+    fn write_at(&mut self, at: u64, piece: &[u8]) -> Result<(), Failed> {
+        self.disk.write_at(at, piece)
+    }
+
+    fn cut(&mut self, to: u64) -> Result<(), Failed> {
+        self.disk.cut(to)
+    }
+
+    fn sync(&mut self) -> Result<(), Failed> {
+        self.syncs.set(self.syncs.get().saturating_add(1));
+        self.disk.sync()
+    }
+
+    ghost reads_an_image = { λ _ disk. journal_reads disk.disk.journal 0 };
+
+    ghost counts_now = { λ _ disk t c le now. journal_counts disk.disk.journal 0 t c le now };
+
+    ghost only_now = { λ _ disk c since. journal_only disk.disk.journal 0 c since };
+}
+
+impl CrashDisk for CountedDisk<'_> {
+    fn crash(&mut self, pick: u8) {
+        self.disk.crash(pick);
+    }
+}
+
+/// A sink that notes how many syncs there were when it was given each piece.
+#[derive(Drop)]
+struct NotingSink<'a> {
+    text: Vec<u8>,
+    /// Of each piece, where it begins in the text and the syncs before it.
+    pieces: Vec<(usize, u64)>,
+    syncs: &'a Cell<u64>,
+}
+
+impl NotingSink<'_> {
+    /// How many syncs there were when the first byte of this word came.
+    fn syncs_before(&self, word: &[u8]) -> Option<u64> {
+        let at = self.text.windows(word.len()).position(|w| w == word)?;
+        let piece = self.pieces.iter().rev().find(|piece| piece.0 <= at)?;
+        Some(piece.1)
+    }
+}
+
+impl Sink for NotingSink<'_> {
+    ghost use Rattle.std.specs.Prelude.{true};
+
+    ghost told = { true };
+
+    ghost taken = { λ sink. sink.text.items };
+
+    ghost faults = { λ _. 0 };
+
+    fn write(&mut self, piece: &[u8]) -> Result<usize, SinkError> {
+        let begins = self.text.len();
+        if self.pieces.push((begins, self.syncs.get())).is_err() {
+            return Err(SinkError::NoMemory);
+        }
+        match self.text.extend_from_slice(piece) {
+            Ok(()) => Ok(piece.len()),
+            Err(_) => Err(SinkError::NoMemory),
+        }
+    }
+}
+
+/// A pair of empty disks that count their syncs.
+#[tactic(auto, using(crate::proofs::Emptiness::new_by))]
+fn pair<'a>(alloc: Global, syncs: &'a Cell<u64>) -> Result<DiskPair<CountedDisk<'a>>, Fail>
+    ensures { IfOk result (λ pair. IsNew true (λ (disk : Counted). journal_means disk.disk.journal 0) pair) }
+{
+    let one = CountedDisk {
+        disk: empty_disk(alloc).ok().ok_or("memory")?,
+        syncs,
+    };
+    let two = CountedDisk {
+        disk: empty_disk(alloc).ok().ok_or("memory")?,
+        syncs,
+    };
+    Ok(DiskPair::new(one, two))
+}
+
+/// Nine such pairs.
+fn pairs<'a>(alloc: Global, syncs: &'a Cell<u64>) -> Result<Vec<DiskPair<CountedDisk<'a>>>, Fail>
+    ensures { IfOk result (λ pairs. AreNew true (λ (disk : Counted). journal_means disk.disk.journal 0) pairs.items) }
+{
+    let pairs = [
+        pair(alloc, syncs)?,
+        pair(alloc, syncs)?,
+        pair(alloc, syncs)?,
+        pair(alloc, syncs)?,
+        pair(alloc, syncs)?,
+        pair(alloc, syncs)?,
+        pair(alloc, syncs)?,
+        pair(alloc, syncs)?,
+        pair(alloc, syncs)?,
+    ];
+    Ok(Vec::from_array(alloc, pairs)?)
+}
+
+const SCRIPT: &[u8] = b"cluster n1\nelect n1\n\
+ask n1 POST /db/execute [\"CREATE TABLE foo (id INTEGER PRIMARY KEY, name TEXT, age INTEGER)\"]\n\
+ask n1 POST /db/execute [\"INSERT INTO foo(name, age) VALUES('fiona', 20)\"]\napply n1\n\
+ask n1 POST /db/query?level=none [\"SELECT * FROM foo\"]\n";
+
+// Two syncs of the opening, four of the first base and two of the boot come before `up`; two for each of the election's
+// two frames and for each list come before the first answer.
+#[test]
+fn order_of_calls(rt: HostRuntime) -> Result<(), Fail> {
+    let alloc = rt.alloc();
+    let syncs = Cell::new(0);
+    let mut words = Vec::new(alloc);
+    words.push(Word::new(alloc, b"cluster").ok().ok_or("memory")?)?;
+    let mut source = SureSource::new(SCRIPT.to_vec(alloc)?);
+    let mut sink = NotingSink {
+        text: Vec::new(alloc),
+        pieces: Vec::new(alloc),
+        syncs: &syncs,
+    };
+    let mut disks = pairs(alloc, &syncs)?;
+    let mut draws = SureDraws::new(Vec::new(alloc));
+    let status = cluster_main(
+        alloc,
+        &words,
+        &mut source,
+        &mut sink,
+        &mut disks,
+        &mut draws,
+    );
+    assert_eq!(rt; status, 0);
+    assert_eq!(rt; sink.syncs_before(b"up n1"), Some(8));
+    assert_eq!(rt; sink.syncs_before(b"answer 1"), Some(16));
+    Ok(())
+}
