@@ -1,5 +1,6 @@
 //! A line's text is written before the next line is done, and files are written at each event.
-ghost use Rattle.std.specs.Prelude.{true, IfOk};
+ghost use Rattle.std.specs.Prelude.{◌<◌, length, true, [], IfOk};
+ghost use Rattle.rq_outside.specs.Disk.{Only};
 ghost use Rattle.rq_outside.specs.Memory.{journal_means};
 ghost use Rattle.rq_cluster.specs.declared.order_tests.CountedDisk.{CountedDisk as Counted};
 ghost use Rattle.rq_cluster.specs.Standing.{IsNew, AreNew};
@@ -83,7 +84,9 @@ struct NotingSink<'a> {
 
 impl NotingSink<'_> {
     /// How many syncs there were when the first byte of this word came.
-    fn syncs_before(&self, word: &[u8]) -> Option<u64> {
+    fn syncs_before(&self, word: &[u8]) -> Option<u64>
+        requires { 0 < length word.now }
+    {
         let at = self.text.windows(word.len()).position(|w| w == word)?;
         let piece = self.pieces.iter().rev().find(|piece| piece.0 <= at)?;
         Some(piece.1)
@@ -111,24 +114,28 @@ impl Sink for NotingSink<'_> {
     }
 }
 
-/// A pair of empty disks that count their syncs.
-#[tactic(auto, using(crate::proofs::Emptiness::new_by))]
-fn pair<'a>(alloc: Global, syncs: &'a Cell<u64>) -> Result<DiskPair<CountedDisk<'a>>, Fail>
+/// An empty disk that counts its syncs.
+fn counted<'a>(alloc: Global, syncs: &'a Cell<u64>) -> Result<CountedDisk<'a>, NoMemory>
+    ensures { IfOk result (λ disk. Only [] (journal_means disk.disk.journal 0).images) }
+{
+    let disk = empty_disk(alloc)?;
+    Ok(CountedDisk { disk, syncs })
+}
+
+/// A pair of such disks.
+fn pair<'a>(alloc: Global, syncs: &'a Cell<u64>) -> Result<DiskPair<CountedDisk<'a>>, NoMemory>
     ensures { IfOk result (λ pair. IsNew true (λ (disk : Counted). journal_means disk.disk.journal 0) pair) }
 {
-    let one = CountedDisk {
-        disk: empty_disk(alloc).ok().ok_or("memory")?,
-        syncs,
-    };
-    let two = CountedDisk {
-        disk: empty_disk(alloc).ok().ok_or("memory")?,
-        syncs,
-    };
+    let one = counted(alloc, syncs)?;
+    let two = counted(alloc, syncs)?;
     Ok(DiskPair::new(one, two))
 }
 
 /// Nine such pairs.
-fn pairs<'a>(alloc: Global, syncs: &'a Cell<u64>) -> Result<Vec<DiskPair<CountedDisk<'a>>>, Fail>
+fn pairs<'a>(
+    alloc: Global,
+    syncs: &'a Cell<u64>,
+) -> Result<Vec<DiskPair<CountedDisk<'a>>>, NoMemory>
     ensures { IfOk result (λ pairs. AreNew true (λ (disk : Counted). journal_means disk.disk.journal 0) pairs.items) }
 {
     let pairs = [
@@ -142,7 +149,10 @@ fn pairs<'a>(alloc: Global, syncs: &'a Cell<u64>) -> Result<Vec<DiskPair<Counted
         pair(alloc, syncs)?,
         pair(alloc, syncs)?,
     ];
-    Ok(Vec::from_array(alloc, pairs)?)
+    match Vec::from_array(alloc, pairs) {
+        Ok(pairs) => Ok(pairs),
+        Err(_) => Err(NoMemory),
+    }
 }
 
 const SCRIPT: &[u8] = b"cluster n1\nelect n1\n\
@@ -164,7 +174,7 @@ fn order_of_calls(rt: HostRuntime) -> Result<(), Fail> {
         pieces: Vec::new(alloc),
         syncs: &syncs,
     };
-    let mut disks = pairs(alloc, &syncs)?;
+    let mut disks = pairs(alloc, &syncs).ok().ok_or("memory")?;
     let mut draws = SureDraws::new(Vec::new(alloc));
     let status = cluster_main(
         alloc,

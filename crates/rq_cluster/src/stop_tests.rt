@@ -6,16 +6,16 @@ ghost use Rattle.rq_cluster.specs.Standing.{IsNew, AreNew};
 
 use super::*;
 use rq_outside::{CrashDisk, DiskPair, MemDisk, SureDraws, SureSink, SureSource, Word};
+use rq_values::NoMemory;
 use std::alloc::Global;
 use std::test::Fail;
 
 /// The pairs of a script, of which the files of the first fail at these calls.
-fn pairs(alloc: Global, one: &[u64], two: &[u64]) -> Result<Vec<DiskPair<MemDisk>>, Fail>
+fn pairs(alloc: Global, one: &[u64], two: &[u64]) -> Result<Vec<DiskPair<MemDisk>>, NoMemory>
     ensures { IfOk result (λ pairs. AreNew true mem_means pairs.items) }
 {
-    let first = pair(alloc, one, two)?;
     let pairs = [
-        first,
+        pair(alloc, one, two)?,
         pair(alloc, &[], &[])?,
         pair(alloc, &[], &[])?,
         pair(alloc, &[], &[])?,
@@ -25,29 +25,32 @@ fn pairs(alloc: Global, one: &[u64], two: &[u64]) -> Result<Vec<DiskPair<MemDisk
         pair(alloc, &[], &[])?,
         pair(alloc, &[], &[])?,
     ];
-    Ok(Vec::from_array(alloc, pairs)?)
+    match Vec::from_array(alloc, pairs) {
+        Ok(pairs) => Ok(pairs),
+        Err(_) => Err(NoMemory),
+    }
 }
 
 /// A pair of empty disks that fail at these calls.
 #[tactic(auto, using(crate::proofs::Emptiness::empty_mem_is_new))]
-fn pair(alloc: Global, one: &[u64], two: &[u64]) -> Result<DiskPair<MemDisk>, Fail>
+fn pair(alloc: Global, one: &[u64], two: &[u64]) -> Result<DiskPair<MemDisk>, NoMemory>
     ensures { IfOk result (λ pair. IsNew true mem_means pair) }
 {
-    Ok(DiskPair::new(disk(alloc, one)?, disk(alloc, two)?))
+    let one = disk(alloc, one)?;
+    let two = disk(alloc, two)?;
+    Ok(DiskPair::new(one, two))
 }
 
 /// An empty disk that fails at these calls, whatever a crash leaves.
-fn disk(alloc: Global, fails: &[u64]) -> Result<MemDisk, Fail>
+fn disk(alloc: Global, fails: &[u64]) -> Result<MemDisk, NoMemory>
     ensures { IfOk result (λ disk. Only [] (mem_means disk).images) }
 {
-    let mut disk = MemDisk::new(alloc, Vec::new(alloc), fails.to_vec(alloc)?)
-        .ok()
-        .ok_or("memory")?;
+    let mut disk = MemDisk::new(alloc, Vec::new(alloc), fails.to_vec(alloc)?)?;
     disk.crash(0);
     if disk.bytes().is_empty() {
         Ok(disk)
     } else {
-        Err("not empty".into())
+        Err(NoMemory)
     }
 }
 
@@ -64,7 +67,7 @@ fn gives(
     words.push(Word::new(alloc, b"cluster").ok().ok_or("memory")?)?;
     let mut source = SureSource::new(script.to_vec(alloc)?);
     let mut sink = SureSink::new(Vec::new(alloc));
-    let mut disks = pairs(alloc, one, two)?;
+    let mut disks = pairs(alloc, one, two).ok().ok_or("memory")?;
     let mut draws = SureDraws::new(Vec::new(alloc));
     let found = cluster_main(
         alloc,

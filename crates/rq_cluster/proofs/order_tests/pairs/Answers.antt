@@ -6,7 +6,7 @@ use Rattle.rq_cluster.specs.Standing.{AreNew}
 use Rattle.rq_cluster.proofs.Emptiness.{nine}
 use Rattle.rq_cluster.proofs.order_tests.pairs.Goals as goal
 
-means : CountedDisk → DiskMeaning
+abbrev means : CountedDisk → DiskMeaning
 means disk = journal_means disk.disk.journal 0
 
 pub returns-in-Ok : goal.returns-in-Ok
