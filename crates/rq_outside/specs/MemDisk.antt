@@ -19,6 +19,9 @@ sure_bytes disk = disk.journal.content.items
 abbrev pub picked_of : ℕ → MemDisk → List ℕ
 picked_of pick disk = picked pick disk.journal.calls.items disk.journal.written.items disk.journal.first.items
 
+abbrev pub sure_picked : ℕ → SureDisk → List ℕ
+sure_picked pick disk = picked pick disk.journal.calls.items disk.journal.written.items disk.journal.first.items
+
 pub journal_reads : (journal : Journal) (f : ℕ) → (journal_means journal f).images (journal_means journal f).content
 journal_reads journal f = subst (left_after journal.calls.items journal.written.items journal.first.items) (sym journal.reads) (reads_image journal.calls.items journal.written.items journal.first.items _ (omega (arith, journal.total)) journal.valid refl)
 

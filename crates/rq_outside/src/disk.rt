@@ -92,9 +92,13 @@ pub trait Disk {
 }
 
 pub trait CrashDisk: Disk {
-    /// What a crash leaves: one of the images, stable. Times before it say nothing any more.
+    /// What a crash leaves by each pick.
+    ghost picked: { ℕ → Self → List ℕ };
+
+    /// What a crash leaves: one of the images, which the pick names, stable. Times before it say nothing any more.
     fn crash(&mut self, pick: u8)
         requires { pick < 4 }
+        ensures picked { IsTrue Self.told → (Self.means self.new).content ≡ picked pick self.old }
         ensures image { IsTrue Self.told → (Self.means self.old).images (Self.means self.new).content }
         ensures stable { IsTrue Self.told → Only (Self.means self.new).content (Self.means self.new).images }
         ensures room { KeepsRoom (Self.means self.old) (Self.means self.new) }

@@ -1,5 +1,5 @@
 // Two disks as one, which can be armed to stop at a stated changing call.
-ghost use Rattle.std.specs.Prelude.{◌≡◌, ◌≤◌, ◌<◌, ◌-◌, ◌++◌, min, List, ℕ, length, take, drop, IsTrue, IfOk, OnOk, OnErr, IsNone, ◌↔◌, ◌≢◌};
+ghost use Rattle.std.specs.Prelude.{◌≡◌, ◌⊎◌, ◌≤◌, ◌<◌, ◌-◌, ◌++◌, min, List, ℕ, length, take, drop, IsTrue, IfOk, OnOk, OnErr, IsNone, ◌↔◌, ◌≢◌};
 ghost use Rattle.rq_outside.specs.Counts.{Rose, HasCause};
 ghost use Rattle.rq_outside.specs.Disk.{Follows, Torn, Cut, Holds, Only, Elapses, Stays, KeepsRoom, HasRoom, Uses};
 ghost use Rattle.rq_outside.specs.declared.pair.FileNo.{FileNo};
@@ -117,6 +117,7 @@ impl<D: Disk> DiskPair<D> {
         }
     }
 
+    /// Overwrites a file from a place on, and may prolong it. A call that is stopped is made, and not told so.
     pub fn write_at(&mut self, file: FileNo, at: u64, piece: &[u8]) -> Result<(), Failed>
         requires place { IsTrue D.told → at ≤ length (D.means (disk_at self.old file)).content }
         requires piece { 0 < length piece.now }
@@ -124,6 +125,7 @@ impl<D: Disk> DiskPair<D> {
         ensures other { disk_at self.new (other file) ≡ disk_at self.old (other file) }
         ensures written { IsTrue D.told → OnOk result (Holds (D.means (disk_at self.old file)).content at piece.now (D.means (disk_at self.new file)).content) }
         ensures failed { IsTrue D.told → OnErr result (Torn at (length piece.now) (D.means (disk_at self.old file)).content (D.means (disk_at self.new file)).content) }
+        ensures stopped { IsTrue D.told → arm_of self.old ≡ Arm.Passes 0 → Holds (D.means (disk_at self.old file)).content at piece.now (D.means (disk_at self.new file)).content ⊎ Rose (D.means (disk_at self.old file)).faults (D.means (disk_at self.new file)).faults }
         ensures images { IsTrue D.told → Follows (Torn at (length piece.now)) (D.means (disk_at self.old file)).images (D.means (disk_at self.new file)).images }
         ensures time { IsTrue D.told → Elapses (D.means (disk_at self.old file)) (D.means (disk_at self.new file)) }
         ensures room { Uses (length piece.now) 1 (D.means (disk_at self.old file)) (D.means (disk_at self.new file)) }
@@ -234,6 +236,7 @@ impl<D: Disk> DiskPair<D> {
         ensures other { disk_at self.new (other file) ≡ disk_at self.old (other file) }
         ensures cut { IsTrue D.told → OnOk result ((D.means (disk_at self.new file)).content ≡ take to (D.means (disk_at self.old file)).content) }
         ensures failed { IsTrue D.told → OnErr result (Cut to (D.means (disk_at self.old file)).content (D.means (disk_at self.new file)).content) }
+        ensures stopped { IsTrue D.told → arm_of self.old ≡ Arm.Passes 0 → ((D.means (disk_at self.new file)).content ≡ take to (D.means (disk_at self.old file)).content) ⊎ Rose (D.means (disk_at self.old file)).faults (D.means (disk_at self.new file)).faults }
         ensures images { IsTrue D.told → Follows (Cut to) (D.means (disk_at self.old file)).images (D.means (disk_at self.new file)).images }
         ensures time { IsTrue D.told → Elapses (D.means (disk_at self.old file)) (D.means (disk_at self.new file)) }
         ensures room { Uses 0 1 (D.means (disk_at self.old file)) (D.means (disk_at self.new file)) }
@@ -319,9 +322,10 @@ impl<D: CrashDisk> DiskPair<D> {
         }
     }
 
-    /// Crashes both disks, and leaves the pair unarmed.
+    /// Crashes both disks by the same pick, and leaves the pair unarmed.
     pub fn crash(&mut self, pick: u8)
         requires { pick < 4 }
+        ensures picked { IsTrue D.told → (file : FileNo) → (D.means (disk_at self.new file)).content ≡ D.picked pick (disk_at self.old file) }
         ensures image { IsTrue D.told → (file : FileNo) → (D.means (disk_at self.old file)).images (D.means (disk_at self.new file)).content }
         ensures stable { IsTrue D.told → (file : FileNo) → Only (D.means (disk_at self.new file)).content (D.means (disk_at self.new file)).images }
         ensures room { (file : FileNo) → KeepsRoom (D.means (disk_at self.old file)) (D.means (disk_at self.new file)) }

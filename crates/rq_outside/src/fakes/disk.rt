@@ -114,6 +114,8 @@ impl CrashDisk for MemDisk {
     ghost use Rattle.rq_outside.specs.Memory.{journal_means};
     ghost use Rattle.rq_outside.specs.MemDisk.{disk_bytes, picked_of};
 
+    ghost picked = { λ pick disk. picked_of pick disk };
+
     fn crash(&mut self, pick: u8)
         requires { pick < 4 }
         ensures picked { disk_bytes self.new ≡ picked_of pick self.old }

@@ -87,6 +87,10 @@ impl Disk for SureDisk {
 }
 
 impl CrashDisk for SureDisk {
+    ghost use Rattle.rq_outside.specs.MemDisk.{sure_picked};
+
+    ghost picked = { λ pick disk. sure_picked pick disk };
+
     fn crash(&mut self, pick: u8) {
         self.journal.crash(pick);
     }

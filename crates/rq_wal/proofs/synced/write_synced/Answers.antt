@@ -1,7 +1,7 @@
 use Rattle.std.proofs.Common.{length}
 use Rattle.rq_outside.specs.Disk.{Torn}
 use Rattle.rq_outside.specs.Pair.{disk_at}
-use Rattle.rq_wal.proofs.Moments.{then_synced, torn_same}
+use Rattle.rq_wal.proofs.Moments.{changed, then_synced, torn_same}
 use Rattle.rq_wal.proofs.synced.write_synced.Goals as goal
 
 pub returns-in_err-sync-clause-any_moment : goal.returns-in_err-sync-clause-any_moment
@@ -15,3 +15,7 @@ returns-clause-any_moment g c told =
     let now = g.met.D.Disk.only_now told in
     then_synced (Torn c.args.at (length c.args.piece.now)) (torn_same _ _) _ _ (now (disk_at c.args.disks.now c.args.file)) (c.requires.durable told)
     (c.write_at.ensures.images told) (c.write_at.ensures.time told) _ (now (disk_at c.write_at.new.self c.args.file)) (c.sync.ensures.time told) (c.sync.ensures.images told)
+
+pub returns-in_err-write_at-clause-any_moment : goal.returns-in_err-write_at-clause-any_moment
+returns-in_err-write_at-clause-any_moment g c told =
+    changed (Torn c.args.at (length c.args.piece.now)) (torn_same _ _) _ _ (g.met.D.Disk.only_now told (disk_at c.args.disks.now c.args.file)) (c.requires.durable told) (c.write_at.ensures.images told) (c.write_at.ensures.time told)
