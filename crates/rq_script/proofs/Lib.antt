@@ -3,3 +3,4 @@ mod Fronts
 mod Histories
 mod Moments
 mod Promises
+mod Tellings

@@ -7,3 +7,4 @@ pub mod ReadLine
 pub mod Runs
 pub mod ScriptLine
 pub mod ScriptText
+pub mod Telling

@@ -2,10 +2,12 @@
 
 ghost use Rattle.std.specs.Prelude.{◌≡◌, ℕ, List, Some};
 ghost use Rattle.rq_script.specs.Cluster.{Server, Cluster, Steps};
-ghost use Rattle.rq_script.specs.History.{history, node_in};
+ghost use Rattle.rq_script.specs.History.{history, node_in, notes_of};
 ghost use Rattle.rq_script.specs.Lines.{Line, IsWithin};
 ghost use Rattle.rq_script.specs.Promise.{IsKept, Keeps, Grows};
 ghost use Rattle.rq_script.specs.Runs.{Runs};
+ghost use Rattle.rq_script.specs.ScriptLine.{line_of};
+ghost use Rattle.rq_script.specs.Telling.{Tells};
 
 /// At each moment of a run, a running node's database is the fold of a front of the one log, and each answer that was given is
 /// right: a write has its place in that log, and the answer is its entry's outcome there; a read is answered from the fold of
@@ -25,4 +27,9 @@ pub fn the_one_log_grows()
 /// show, however much stands there of what a failing disk broke off.
 pub fn what_was_chosen_is_kept()
     ensures { (lines : List Line) (text : List ℕ) (c : Cluster) (run : Runs lines text c) (s : Server) → c.server ≡ Some s → IsKept (history run).chosen s.stand }
+{}
+
+/// What a line writes is the answers that are noted of it, in their order; or it tells how a node stands, and no answer is noted.
+pub fn answers_are_noted()
+    ensures { (c : Cluster) (bytes text : List ℕ) (next : Cluster) (steps : Steps c bytes text next) → Tells text (notes_of c (line_of bytes) steps.0.items steps.0.course) }
 {}

@@ -1,0 +1,193 @@
+-- What a line writes is what is noted of it.
+use Rattle.std.proofs.Common.{◌≡◌, ◌⊎◌, inl, inr, ℕ, zero, suc, ◌+◌, ◌-◌, ◌==◌, ◌||◌, ◌^◌, nat_eq, nat_lt, List, [], ◌∷◌, ◌++◌, length, take, slice_get, Bool, true, false, if◌then◌else◌, bytes_eq, Option, Some, None, option_and_then, refl, sym, ◌∙◌, ap, subst, append_assoc, arith}
+use Rattle.std.specs.Prelude.{⊤}
+use Rattle.std.specs.Option.{option_map}
+use Rattle.std.proofs.lemmas.List.{append-nil}
+use Rattle.rq_engine.specs.declared.item.Item.{Item}
+use Rattle.rq_engine.specs.declared.command.Res.{Res}
+use Rattle.rq_engine.specs.declared.say.Say.{Say}
+use Rattle.rq_engine.specs.declared.say.Say.TheVariants.{Results}
+use Rattle.rq_engine.specs.declared.say.Answer.{Answer}
+use Rattle.rq_engine.specs.Meaning.{answers}
+use Rattle.rq_json.specs.Body.{texts_of}
+use Rattle.rq_node.specs.Node.{Node, Kept, Durable, Turn, kept_after, quiet}
+use Rattle.rq_node.specs.Rules.{is_leader, led, elect, applied_entry, apply_next, apply_times, execute, query, apply, started}
+use Rattle.rq_node.specs.Files.{first_kept}
+use Rattle.rq_script.specs.ScriptLine.{Line, Skip, Cluster as ClusterLine, Elect, Apply, Execute, Query, Stop, StopWithin, Start, Show, line_of}
+use Rattle.rq_script.specs.ScriptText.{answers_text}
+use Rattle.rq_script.specs.Cluster.{Stand, Running, Down, Server, Cluster, Written, new_server, Fault, NoFault, Reading, Storing, Course, Fate, Done, Struck, Failed, fate, ended, happens, happens_at, opens, starts, stops, arms, shown, at_server, event_at, ask_at, founded, done, step, Steps}
+use Rattle.rq_script.specs.History.{Op, Write, Read, Note, Asked, Answered, at_place, said_by, said, applying, node_at, node_in, said_at, asking, applying_at, notes, notes_of}
+use Rattle.rq_script.specs.Promise.{op_of}
+use Rattle.rq_script.specs.Telling.{answers_in, IsState, is_up, is_down, is_shown, is_shown_down, Tells}
+use Rattle.rq_script.proofs.Histories.{places_ask_nothing, applying_asks_nothing, apply_stores}
+
+-- ---- the answers in notes
+
+answers_places : (place : ℕ) (said : List Answer) → answers_in (at_place place said) ≡ said
+unfolding answers_in
+answers_places place [] = refl
+answers_places place (answer ∷ said) = ap (λ (l : List Answer). answer ∷ l) (answers_places place said)
+
+answers_both : (one two : List Note) → answers_in (one ++ two) ≡ answers_in one ++ answers_in two
+unfolding answers_in
+answers_both [] two = refl
+answers_both (Asked number op ∷ one) two = answers_both one two
+answers_both (Answered number say place ∷ one) two = ap (λ (l : List Answer). record { number = number; say = say } ∷ l) (answers_both one two)
+
+-- applying gives the answers that are noted of it
+apply_answers : (k : ℕ) (turn : Turn) → (apply_times k turn).answers ≡ turn.answers ++ answers_in (applying k turn.node)
+unfolding apply_times applying answers_in
+apply_answers zero turn = sym (append-nil turn.answers)
+apply_answers (suc k) turn =
+    let next = applied_entry turn.node (slice_get turn.node.log turn.node.applied) in
+    apply_answers k (apply_next turn)
+    ∙ append_assoc turn.answers next.answers (answers_in (applying k next.node))
+    ∙ ap (λ (l : List Answer). turn.answers ++ l)
+    (sym (answers_both (at_place (turn.node.applied + 1) next.answers) (applying k next.node)
+    ∙ ap (λ (l : List Answer). l ++ answers_in (applying k next.node)) (answers_places (turn.node.applied + 1) next.answers)))
+
+-- ---- what lines write
+
+abbrev MayTell : List Note → Option Written → Type 0
+MayTell noted None = ⊤
+MayTell noted (Some x) = Tells x.1 noted
+
+abbrev ActTells : List Note → Option (Server × List ℕ) → Type 0
+ActTells noted None = ⊤
+ActTells noted (Some t) = Tells t.1 noted
+
+tells_nothing : Tells [] []
+unfolding answers_in
+tells_nothing = inl refl
+
+tells_state : (text : List ℕ) → IsState text → Tells text []
+unfolding answers_in
+tells_state text is = inr (refl, is)
+
+tells_asked : (text : List ℕ) (number : ℕ) (op : Op) (noted : List Note) → Tells text noted → Tells text (Asked number op ∷ noted)
+unfolding answers_in
+tells_asked text number op noted tells = tells
+
+-- a turn that is done tells its answers, and one that is broken off that the node is down
+ended_tells : (f : Fate) (course : Course) (s : Server) (n : Node) (turn : Turn) (asked : List ℕ) (place : ℕ)
+    → Tells (ended f course s n turn asked).1 (said_by f turn place)
+ended_tells Done course s n turn asked place = inl (ap answers_text (sym (answers_places place turn.answers)))
+ended_tells Struck course s n turn asked place = tells_state (ended Struck course s n turn asked).1 (is_down s.id)
+ended_tells Failed course s n turn asked place = tells_state (ended Failed course s n turn asked).1 (is_down s.id)
+
+-- a turn without answers
+silent_tells : (f : Fate) (course : Course) (s : Server) (n : Node) (turn : Turn) (asked : List ℕ) → turn.answers ≡ [] → Tells (ended f course s n turn asked).1 []
+unfolding answers_in
+silent_tells Done course s n turn asked none = inl (ap answers_text none)
+silent_tells Struck course s n turn asked none = inr (refl, is_down s.id)
+silent_tells Failed course s n turn asked none = inr (refl, is_down s.id)
+
+elect_is_silent : (n : Node) → (elect n).answers ≡ []
+elect_is_silent n = at (is_leader n.role || (n.term == 2 ^ 64 - 1))
+  where
+    at : (b : Bool) → (if b then quiet n else led n).answers ≡ []
+    at true = refl
+    at false = refl
+
+elect_tells : (course : Course) (s : Server) (stand : Stand) → Tells (happens_at course (record s { stand = stand }) elect []).1 []
+elect_tells course s (Running n) = silent_tells (fate course s.armed (elect n).durable) course (record s { stand = Running n }) n (elect n) [] (elect_is_silent n)
+elect_tells course s (Down kept rest) = tells_nothing
+
+apply_tells : (course : Course) (s : Server) (stand : Stand) → Tells (happens_at course (record s { stand = stand }) apply []).1 (applying_at (node_at stand))
+apply_tells course s (Down kept rest) = tells_nothing
+apply_tells course s (Running n) =
+    subst (λ (l : List Durable). Tells (ended (fate course s.armed l) course (record s { stand = Running n }) n (apply n) []).1 (applying (n.commit - n.applied) n))
+    (sym (apply_stores (n.commit - n.applied) (quiet n)))
+    (inl (ap answers_text (apply_answers (n.commit - n.applied) (quiet n))))
+
+ask_tells : (course : Course) (s : Server) (stand : Stand) (number : ℕ) (op : Op) (rule : Node → Turn)
+    → Tells (happens_at course (record s { stand = stand }) rule (number ∷ [])).1 (asking course (Some (record s { stand = stand })) number op rule)
+ask_tells course s (Running n) number op rule =
+    tells_asked (happens course (record s { stand = Running n }) n (rule n) (number ∷ [])).1 number op (said course s.armed (rule n) n.applied)
+    (ended_tells (fate course s.armed (rule n).durable) course (record s { stand = Running n }) n (rule n) (number ∷ []) n.applied)
+ask_tells course s (Down kept rest) number op rule = tells_asked [] number op [] tells_nothing
+
+-- ---- at the server that is there
+
+acted_tells : (c : Cluster) (id : List ℕ) (s : Server) (act : Server → Option (Server × List ℕ)) (noted : List Note) → ActTells noted (act s)
+    → MayTell noted (at_server (record c { server = Some s }) id act)
+acted_tells c id s act noted tells = by (bytes_eq s.id id)
+  where
+    acts : (o : Option (Server × List ℕ)) → ActTells noted o → MayTell noted (option_map (λ (t : Server × List ℕ). (record c { server = Some t.0 }, t.1)) o)
+    acts None none = tt
+    acts (Some t) told = told
+
+    by : (b : Bool) → MayTell noted (if b then option_map (λ (t : Server × List ℕ). (record c { server = Some t.0 }, t.1)) (act s) else None)
+    by true = acts (act s) tells
+    by false = tt
+
+server_tells : (c : Cluster) (id : List ℕ) (act : Server → Option (Server × List ℕ)) (noted : Option Server → List Note)
+    → ((s : Server) (stand : Stand) → ActTells (noted (Some (record s { stand = stand }))) (act (record s { stand = stand })))
+    → MayTell (noted c.server) (at_server c id act)
+server_tells c id act noted tells = at c.server
+  where
+    at : (o : Option Server) → MayTell (noted o) (at_server (record c { server = o }) id act)
+    at None = tt
+    at (Some s) = acted_tells c id s act (noted (Some s)) (tells s s.stand)
+
+asked_tells : (c : Cluster) (course : Course) (id body : List ℕ) (rule : ℕ → List Item → Node → Turn) (items : List Item) (op : Op)
+    → MayTell (asking course c.server (c.asks + 1) op (rule (c.asks + 1) items)) (ask_at course c id rule items body)
+asked_tells c course id body rule items op = by (texts_of body)
+  where
+    by : (o : Option (List (List ℕ))) → MayTell (asking course c.server (c.asks + 1) op (rule (c.asks + 1) items))
+        (option_and_then (λ (t : List (List ℕ)). event_at course (record c { asks = c.asks + 1 }) id (rule (c.asks + 1) items) ((c.asks + 1) ∷ [])) o)
+    by None = tt
+    by (Some texts) = server_tells (record c { asks = c.asks + 1 }) id (λ s. Some (happens_at course s (rule (c.asks + 1) items) ((c.asks + 1) ∷ [])))
+        (λ o. asking course o (c.asks + 1) op (rule (c.asks + 1) items)) (λ s stand. ask_tells course s stand (c.asks + 1) op (rule (c.asks + 1) items))
+
+opens_tells : (course : Course) (s : Server) (kept : Kept) (rest : List Durable) (fault : Fault) → Tells (opens (record course { fault = fault }) s kept rest).1 []
+opens_tells course s kept rest NoFault = tells_state _ (is_up (started s.id (kept_after kept (take course.stands rest))).node)
+opens_tells course s kept rest Reading = tells_state _ (is_down s.id)
+opens_tells course s kept rest Storing = tells_state _ (is_down s.id)
+
+found_tells : (c : Cluster) (course : Course) (id : List ℕ) → MayTell [] (founded course c id)
+found_tells c course id = at c.server
+  where
+    at : (o : Option Server) → MayTell [] (founded course (record c { server = o }) id)
+    at None = opens_tells course (new_server id) first_kept [] course.fault
+    at (Some s) = tt
+
+start_tells : (course : Course) (s : Server) (stand : Stand) → ActTells [] (starts course (record s { stand = stand }))
+start_tells course s (Running n) = tt
+start_tells course s (Down kept rest) = opens_tells course (record s { stand = Down kept rest }) kept rest course.fault
+
+stop_tells : (s : Server) (stand : Stand) → ActTells [] (stops (record s { stand = stand }))
+stop_tells s (Running n) = tells_state _ (is_down s.id)
+stop_tells s (Down kept rest) = tt
+
+arm_tells : (calls pick : ℕ) (s : Server) (stand : Stand) → ActTells [] (arms calls pick (record s { stand = stand }))
+arm_tells calls pick s (Running n) = tells_nothing
+arm_tells calls pick s (Down kept rest) = tt
+
+show_tells : (s : Server) (stand : Stand) → Tells (shown s.id stand) []
+show_tells s (Running n) = tells_state _ (is_shown n)
+show_tells s (Down kept rest) = tells_state _ (is_shown_down s.id)
+
+line_tells : (c : Cluster) (line : Line) (items : List Item) (course : Course) → MayTell (notes c line items course) (done items course c line)
+line_tells c Skip items course = tells_nothing
+line_tells c (ClusterLine id) items course = found_tells c course id
+line_tells c (Elect id) items course = server_tells c id (λ s. Some (happens_at course s elect [])) (λ _. []) (elect_tells course)
+line_tells c (Apply id) items course =
+    server_tells c id (λ s. Some (happens_at course s apply [])) (λ o. applying_at (option_and_then (λ (s : Server). node_at s.stand) o)) (apply_tells course)
+line_tells c (Execute id body) items course = asked_tells c course id body (λ number read n. execute n number read) items (Write items)
+line_tells c (Query id body) items course = asked_tells c course id body (λ number read n. query n number read) items (Read items)
+line_tells c (Stop id) items course = server_tells c id stops (λ _. []) stop_tells
+line_tells c (StopWithin id calls pick) items course = server_tells c id (arms calls pick) (λ _. []) (arm_tells calls pick)
+line_tells c (Start id) items course = server_tells c id (starts course) (λ _. []) (start_tells course)
+line_tells c (Show id) items course = server_tells c id (λ s. Some (s, shown s.id s.stand)) (λ _. []) show_tells
+
+step_tells : (c : Cluster) (bytes : List ℕ) (items : List Item) (course : Course) → MayTell (notes_of c (line_of bytes) items course) (step items course c bytes)
+unfolding step
+step_tells c bytes items course = at (line_of bytes)
+  where
+    at : (o : Option Line) → MayTell (notes_of c o items course) (option_and_then (done items course c) o)
+    at None = tt
+    at (Some line) = line_tells c line items course
+
+pub told : (c : Cluster) (bytes text : List ℕ) (next : Cluster) (steps : Steps c bytes text next) → Tells text (notes_of c (line_of bytes) steps.0.items steps.0.course)
+told c bytes text next (way, is) = subst (MayTell (notes_of c (line_of bytes) way.items way.course)) is (step_tells c bytes way.items way.course)
