@@ -1,4 +1,4 @@
--- What a line writes is what is noted of it.
+-- What a line writes is what is noted of it, and reads see what was applied.
 use Rattle.std.proofs.Common.{◌≡◌, ◌⊎◌, inl, inr, ℕ, zero, suc, ◌+◌, ◌-◌, ◌==◌, ◌||◌, ◌^◌, nat_eq, nat_lt, List, [], ◌∷◌, ◌++◌, length, take, slice_get, Bool, true, false, if◌then◌else◌, bytes_eq, Option, Some, None, option_and_then, refl, sym, ◌∙◌, ap, subst, append_assoc, arith}
 use Rattle.std.specs.Prelude.{⊤}
 use Rattle.std.specs.Option.{option_map}
@@ -18,7 +18,7 @@ use Rattle.rq_script.specs.ScriptText.{answers_text}
 use Rattle.rq_script.specs.Cluster.{Stand, Running, Down, Server, Cluster, Written, new_server, Fault, NoFault, Reading, Storing, Course, Fate, Done, Struck, Failed, fate, ended, happens, happens_at, opens, starts, stops, arms, shown, at_server, event_at, ask_at, founded, done, step, Steps}
 use Rattle.rq_script.specs.History.{Op, Write, Read, Note, Asked, Answered, at_place, said_by, said, applying, node_at, node_in, said_at, asking, applying_at, notes, notes_of}
 use Rattle.rq_script.specs.Promise.{op_of}
-use Rattle.rq_script.specs.Telling.{answers_in, IsState, is_up, is_down, is_shown, is_shown_down, Tells}
+use Rattle.rq_script.specs.Telling.{answers_in, IsState, is_up, is_down, is_shown, is_shown_down, Tells, SeesApplied, ReadsSeeApplied}
 use Rattle.rq_script.proofs.Histories.{places_ask_nothing, applying_asks_nothing, apply_stores}
 
 -- ---- the answers in notes
@@ -191,3 +191,79 @@ step_tells c bytes items course = at (line_of bytes)
 
 pub told : (c : Cluster) (bytes text : List ℕ) (next : Cluster) (steps : Steps c bytes text next) → Tells text (notes_of c (line_of bytes) steps.0.items steps.0.course)
 told c bytes text next (way, is) = subst (MayTell (notes_of c (line_of bytes) way.items way.course)) is (step_tells c bytes way.items way.course)
+
+-- ---- reads
+
+same_op : (number asked : ℕ) (op other : Op) (more : List Note) → number ≡ asked → op_of (Asked number op ∷ more) asked ≡ Some other → op ≡ other
+same_op number asked op other more same is =
+    let e : nat_eq number asked ≡ true = grind arith in
+    let both : Some op ≡ Some other = sym (ap (λ (b : Bool). if b then Some op else op_of more asked) e) ∙ is in cc
+
+-- behind the ask of a write no read is asked
+write_reads_nothing : (number asked : ℕ) (list items : List Item) (more : List Note) → op_of more asked ≡ None → op_of (Asked number (Write list) ∷ more) asked ≡ Some (Read items) → ⊥
+write_reads_nothing number asked list items more none is = at (nat_eq number asked) is
+  where
+    at : (b : Bool) → (if b then Some (Write list) else op_of more asked) ≡ Some (Read items) → ⊥
+    at true wrong = absurd (cc)
+    at false wrong = absurd (cc)
+
+said_asks_nothing : (f : Fate) (turn : Turn) (place number : ℕ) → op_of (said_by f turn place) number ≡ None
+said_asks_nothing Done turn place number = places_ask_nothing place turn.answers number
+said_asks_nothing Struck turn place number = refl
+said_asks_nothing Failed turn place number = refl
+
+query_sees : (c : Cluster) (course : Course) (o : Option Server) (number : ℕ) (list : List Item) → ReadsSeeApplied (record c { server = o }) (asking course o number (Read list) (λ n. query n number list))
+query_sees c course None number list zero asked results place items is op = absurd (cc)
+query_sees c course None number list (suc k) asked results place items is op = absurd (cc)
+query_sees c course (Some s) number list k asked results place items is op = at s.stand k is op
+  where
+    at : (stand : Stand) (k : ℕ)
+        → slice_get (asking course (Some (record s { stand = stand })) number (Read list) (λ n. query n number list)) k ≡ Some (Answered asked (Results results) place)
+        → op_of (asking course (Some (record s { stand = stand })) number (Read list) (λ n. query n number list)) asked ≡ Some (Read items)
+        → SeesApplied (record c { server = Some (record s { stand = stand }) }) items results place
+    at (Down kept rest) zero is op = absurd (cc)
+    at (Down kept rest) (suc k) is op = absurd (cc)
+    at (Running n) zero is op = absurd (cc)
+    at (Running n) (suc (suc k)) is op = absurd (cc)
+    at (Running n) (suc zero) is op =
+        let answer : Some (Answered number (Results (answers n.database list)) n.applied) ≡ Some (Answered asked (Results results) place) = is in
+        let numbers : number ≡ asked = cc in
+        let lists : Read list ≡ Read items = same_op number asked (Read list) (Read items) (Answered number (Results (answers n.database list)) n.applied ∷ []) numbers op in
+        let same : list ≡ items = cc in
+        let given : answers n.database list ≡ results = cc in
+        record { node = n; runs = refl; sees = cc; outcome = sym given ∙ ap (answers n.database) same }
+
+write_sees : (c : Cluster) (course : Course) (o : Option Server) (number : ℕ) (list : List Item) (rule : Node → Turn) → ReadsSeeApplied c (asking course o number (Write list) rule)
+write_sees c course None number list rule k asked results place items is op = absurd (write_reads_nothing number asked list items [] refl op)
+write_sees c course (Some s) number list rule k asked results place items is op = at s.stand op
+  where
+    at : (stand : Stand) → op_of (asking course (Some (record s { stand = stand })) number (Write list) rule) asked ≡ Some (Read items) → SeesApplied c items results place
+    at (Down kept rest) asks = absurd (write_reads_nothing number asked list items [] refl asks)
+    at (Running n) asks =
+        absurd (write_reads_nothing number asked list items (said course s.armed (rule n) n.applied) (said_asks_nothing (fate course s.armed (rule n).durable) (rule n) n.applied asked) asks)
+
+apply_sees : (c : Cluster) (o : Option Node) → ReadsSeeApplied c (applying_at o)
+apply_sees c None k number results place items is op = absurd (cc)
+apply_sees c (Some n) k number results place items is op = let none = applying_asks_nothing (n.commit - n.applied) n number in absurd (cc)
+
+nothing_sees : (c : Cluster) → ReadsSeeApplied c []
+nothing_sees c k number results place items is op = absurd (cc)
+
+line_sees : (c : Cluster) (line : Line) (items : List Item) (course : Course) → ReadsSeeApplied c (notes c line items course)
+line_sees c Skip items course = nothing_sees c
+line_sees c (ClusterLine id) items course = nothing_sees c
+line_sees c (Elect id) items course = nothing_sees c
+line_sees c (Apply id) items course = apply_sees c (node_in c)
+line_sees c (Execute id body) items course = write_sees c course c.server (c.asks + 1) items (λ n. execute n (c.asks + 1) items)
+line_sees c (Query id body) items course = query_sees c course c.server (c.asks + 1) items
+line_sees c (Stop id) items course = nothing_sees c
+line_sees c (StopWithin id calls pick) items course = nothing_sees c
+line_sees c (Start id) items course = nothing_sees c
+line_sees c (Show id) items course = nothing_sees c
+
+pub seen : (c : Cluster) (bytes text : List ℕ) (next : Cluster) (steps : Steps c bytes text next) → ReadsSeeApplied c (notes_of c (line_of bytes) steps.0.items steps.0.course)
+seen c bytes text next (way, is) = at (line_of bytes)
+  where
+    at : (o : Option Line) → ReadsSeeApplied c (notes_of c o way.items way.course)
+    at None = nothing_sees c
+    at (Some line) = line_sees c line way.items way.course

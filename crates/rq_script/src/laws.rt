@@ -7,7 +7,7 @@ ghost use Rattle.rq_script.specs.Lines.{Line, IsWithin};
 ghost use Rattle.rq_script.specs.Promise.{IsKept, Keeps, Grows};
 ghost use Rattle.rq_script.specs.Runs.{Runs};
 ghost use Rattle.rq_script.specs.ScriptLine.{line_of};
-ghost use Rattle.rq_script.specs.Telling.{Tells};
+ghost use Rattle.rq_script.specs.Telling.{Tells, ReadsSeeApplied};
 
 /// At each moment of a run, a running node's database is the fold of a front of the one log, and each answer that was given is
 /// right: a write has its place in that log, and the answer is its entry's outcome there; a read is answered from the fold of
@@ -32,4 +32,9 @@ pub fn what_was_chosen_is_kept()
 /// What a line writes is the answers that are noted of it, in their order; or it tells how a node stands, and no answer is noted.
 pub fn answers_are_noted()
     ensures { (c : Cluster) (bytes text : List ℕ) (next : Cluster) (steps : Steps c bytes text next) → Tells text (notes_of c (line_of bytes) steps.0.items steps.0.course) }
+{}
+
+/// Each read that a line answers with results is answered from the database of a node, and sees all that this node had applied.
+pub fn reads_see_what_was_applied()
+    ensures { (c : Cluster) (bytes text : List ℕ) (next : Cluster) (steps : Steps c bytes text next) → ReadsSeeApplied c (notes_of c (line_of bytes) steps.0.items steps.0.course) }
 {}
