@@ -39,7 +39,7 @@ pub all_both : (chosen : List LogEntry) (book one two : List Note) → AllRight 
 all_both chosen book [] two none all = all
 all_both chosen book (note ∷ one) two (first, rest) all = (first, all_both chosen book one two rest all)
 
-right_op : (chosen : List LogEntry) (op : Option Op) (say : Say) (place : ℕ) → IsRight chosen op say place → (o : Op) × (op ≡ Some o)
+pub right_op : (chosen : List LogEntry) (op : Option Op) (say : Say) (place : ℕ) → IsRight chosen op say place → (o : Op) × (op ≡ Some o)
 right_op chosen None say place nothing = absurd nothing
 right_op chosen (Some o) say place right = (o, refl)
 

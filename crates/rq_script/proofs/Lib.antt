@@ -2,5 +2,6 @@ mod Digits
 mod Fronts
 mod Histories
 mod Moments
+mod Places
 mod Promises
 mod Tellings

@@ -253,7 +253,7 @@ apply_good h c course s (Running n) sound =
     }
 
 -- an ask whose number is new
-same_number : (number : ℕ) (op : Op) (more : List Note) → op_of (Asked number op ∷ more) number ≡ Some op
+pub same_number : (number : ℕ) (op : Op) (more : List Note) → op_of (Asked number op ∷ more) number ≡ Some op
 same_number number op more = let e : nat_eq number number ≡ true = grind arith in ap (λ (b : Bool). if b then Some op else op_of more number) e
 
 other_number : (number k : ℕ) (op : Op) (more : List Note) → number < k → op_of (Asked number op ∷ more) k ≡ op_of more k

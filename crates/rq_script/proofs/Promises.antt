@@ -1,5 +1,5 @@
 -- Every run keeps what it promises, and its history only grows.
-use Rattle.std.proofs.Common.{◌≡◌, ◌≤◌, ℕ, List, length, Option, Some, None, refl, sym, subst, arith}
+use Rattle.std.proofs.Common.{◌≡◌, ◌≤◌, ℕ, List, ◌++◌, length, Option, Some, None, refl, sym, subst, arith}
 use Rattle.std.specs.Prelude.{option_and_then, ⊤}
 use Rattle.rq_engine.specs.declared.item.Item.{Item}
 use Rattle.rq_node.specs.declared.log_entry.LogEntry.{LogEntry}
@@ -8,11 +8,12 @@ use Rattle.rq_script.specs.Lines.{Line, IsWithin}
 use Rattle.rq_script.specs.ScriptLine.{Line as Command, line_of}
 use Rattle.rq_script.specs.Cluster.{Stand, Running, Down, Server, Cluster, Course, Steps, done, step}
 use Rattle.rq_script.specs.Runs.{Runs}
-use Rattle.rq_script.specs.History.{History, node_at, node_in, notes_of, history}
+use Rattle.rq_script.specs.History.{History, node_at, node_in, notes_of, chosen_with, history}
 use Rattle.rq_script.specs.Promise.{Begins, IsReplica, IsKept, Keeps, Grows}
-use Rattle.rq_script.proofs.Fronts.{begins_take, begins_take_same}
+use Rattle.rq_script.proofs.Fronts.{begins_take, begins_take_same, begins_length}
 use Rattle.rq_script.proofs.Histories.{RightNote, all_get, Stands}
 use Rattle.rq_script.proofs.Moments.{Sound, Fits, FitsAt, MayGo, line_good}
+use Rattle.rq_script.proofs.Places.{Climbs, climbs_both, climbs_more, climbs_apart, AboveAt, Climbed, MayClimb, step_climbs}
 
 step_good : (h : History) (c : Cluster) (bytes : List ℕ) (items : List Item) (course : Course) → Sound h c → MayGo h (notes_of c (line_of bytes) items course) (step items course c bytes)
 unfolding step
@@ -35,6 +36,31 @@ unfolding history
 grows {lines} {text} {c} run l more next within (way, is) =
     (subst (MayGo (history run) (notes_of c (line_of l.text) way.items way.course)) is
     (step_good (history run) c l.text way.items way.course (moment run))).1
+
+-- the places of the answered writes climb to a mark, and the asks that wait are above it
+pub record Placed (h : History) (server : Option Server) : Type 0 where
+  pub mark : ℕ
+  pub climbs : Climbs h.book 0 h.book mark
+  pub within : mark ≤ length h.chosen
+  pub above : AboveAt mark server
+
+placed : {lines : List Line} {text : List ℕ} {c : Cluster} (run : Runs lines text c) → Placed (history run) c.server
+unfolding history
+placed Runs.start = record { mark = 0; climbs = omega arith; within = omega arith; above = tt }
+placed (Runs.line {c} l more next run within (way, is)) =
+    let h = history run in
+    let noted = notes_of c (line_of l.text) way.items way.course in
+    let before = placed run in
+    let behind : Climbed (h.book ++ noted) before.mark noted (length h.chosen) next.server =
+    subst (MayClimb h before.mark before.within noted) is (step_climbs h before.mark before.within c l.text way.items way.course (moment run) before.above) in
+    let longer = begins_length h.chosen (chosen_with (node_in next) h.chosen) (grows run l more next within (way, is)).chosen in
+    let most : behind.mark ≤ length h.chosen = behind.within in
+    record {
+      mark = behind.mark;
+      climbs = climbs_both (h.book ++ noted) h.book noted 0 before.mark behind.mark (climbs_more h.chosen h.book noted h.book 0 before.mark (moment run).right before.climbs) behind.climbs;
+      within = omega (arith, longer, most);
+      above = behind.above;
+    }
 
 -- what fits a server is what each moment promises
 fit : (h : History) (o : Option Server) → FitsAt h.chosen h.book o → (n : Node) → option_and_then (λ (s : Server). node_at s.stand) o ≡ Some n → IsReplica h.chosen n
@@ -61,9 +87,12 @@ fit h (Some s) fits n is = at s.stand fits is
 pub promised : {lines : List Line} {text : List ℕ} {c : Cluster} (run : Runs lines text c) → Keeps (history run) (node_in c)
 promised {lines} {text} {c} run =
     let sound = moment run in
+    let places = placed run in
     record {
       replicas = λ n is. fit (history run) c.server sound.fits n is;
       right = λ k number say place is. subst (RightNote (history run).chosen (history run).book) is (all_get (history run).chosen (history run).book (history run).book k sound.right);
+      apart = λ j k number other place results more items items' one two asked asked'.
+          climbs_apart (history run).book (history run).book 0 places.mark j k number other place results more items items' places.climbs one two asked asked';
     }
 
 -- what was chosen stands in what the server keeps

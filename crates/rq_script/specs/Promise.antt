@@ -67,6 +67,10 @@ IsKept chosen (Down kept rest) = (stands : ℕ) → Begins chosen (kept_after ke
 pub record Keeps (h : History) (node : Option Node) : Type 0 where
   pub replicas : (n : Node) → node ≡ Some n → IsReplica h.chosen n
   pub right : (k number : ℕ) (say : Say) (place : ℕ) → slice_get h.book k ≡ Some (Answered number say place) → IsRight h.chosen (op_of h.book number) say place
+  -- each write that was answered with results has an index of its own
+  pub apart : (j k number other place : ℕ) (results more : List Res) (items items' : List Item)
+      → slice_get h.book j ≡ Some (Answered number (Results results) place) → slice_get h.book k ≡ Some (Answered other (Results more) place)
+      → op_of h.book number ≡ Some (Write items) → op_of h.book other ≡ Some (Write items') → j ≡ k
 
 -- from one moment to the next nothing that was chosen or noted is lost
 pub record Grows (old new : History) : Type 0 where

@@ -10,8 +10,8 @@ ghost use Rattle.rq_script.specs.ScriptLine.{line_of};
 ghost use Rattle.rq_script.specs.Telling.{Tells, ReadsSeeApplied};
 
 /// At each moment of a run, a running node's database is the fold of a front of the one log, and each answer that was given is
-/// right: a write has its place in that log, and the answer is its entry's outcome there; a read is answered from the fold of
-/// a front.
+/// right: a write has a place of its own in that log, which no other write's answer has, and the answer is its entry's outcome
+/// there; a read is answered from the fold of a front.
 #[tactic(auto, using(crate::proofs::Promises::promised))]
 pub fn each_moment_is_kept()
     ensures { (lines : List Line) (text : List ℕ) (c : Cluster) (run : Runs lines text c) → Keeps (history run) (node_in c) }
