@@ -16,15 +16,15 @@ use Rattle.rq_node.specs.declared.log_entry.Content.TheVariants as content
 use Rattle.rq_node.specs.declared.waiting.Waiting.{Waiting}
 use Rattle.rq_node.specs.Sound.{most_bytes}
 use Rattle.rq_node.specs.Node.{Node, Kept, Durable, Turn, kept_after, quiet, says}
-use Rattle.rq_node.specs.Rules.{is_leader, entry_in, risen, led, elect, waits, taken_up, execute_sized, execute, query, answered, left_waiting, applied_content, applied_entry, apply_next, apply_times, apply, started}
+use Rattle.rq_node.specs.Rules.{is_leader, entry_in, risen, led, elect, waits, taken_up, execute_sized, execute, query, applied_content, applied_entry, apply_next, apply_times, apply}
 use Rattle.rq_node.specs.Files.{first_kept}
 use Rattle.rq_script.specs.ScriptLine.{Line, Skip, Cluster as ClusterLine, Elect, Apply, Execute, Query, Stop, StopWithin, Start, Show, line_of}
 use Rattle.rq_script.specs.Cluster.{Stand, Running, Down, Server, Cluster, Written, new_server, Fault, NoFault, Reading, Storing, Course, Fate, Done, Struck, Failed, fate, ended, happens, happens_at, opens, starts, stops, arms, shown, at_server, event_at, ask_at, founded, done, step}
 use Rattle.rq_script.specs.History.{Op, Write, Read, Note, Asked, Answered, History, at_place, said_by, said, applying, node_at, asking, applying_at, notes, notes_of}
-use Rattle.rq_script.specs.Promise.{Begins, op_of, IsKept}
+use Rattle.rq_script.specs.Promise.{op_of}
 use Rattle.rq_script.proofs.Fronts.{begins_length}
 use Rattle.rq_script.proofs.Histories.{AllRight, right_op, op_kept, op_behind}
-use Rattle.rq_script.proofs.Moments.{Fits, FitsAt, Fresh, Sound, same_number}
+use Rattle.rq_script.proofs.Moments.{Fits, FitsAt, Sound, same_number}
 
 -- ---- places that climb
 
@@ -98,12 +98,12 @@ climbs_tail book (Answered number say place) notes low high climbs = at (counts 
 climbs_first : (book : List Note) (note : Note) (notes : List Note) (low high number place : ℕ) (results : List Res) (items : List Item) → Climbs book low (note ∷ notes) high
     → Some note ≡ Some (Answered number (Results results) place) → op_of book number ≡ Some (Write items) → (low < place) × Climbs book place notes high
 climbs_first book (Asked k op) notes low high number place results items climbs is asked = absurd (cc)
-climbs_first book (Answered k say at) notes low high number place results items climbs is asked =
+climbs_first book (Answered k say spot) notes low high number place results items climbs is asked =
     let numbers : k ≡ number = cc in
     let says : say ≡ Results results = cc in
-    let places : at ≡ place = cc in
+    let places : spot ≡ place = cc in
     let counted : counts (op_of book k) say ≡ true = ap (counts (op_of book k)) says ∙ ap (λ (m : ℕ). is_write (op_of book m)) numbers ∙ ap is_write asked in
-    subst (λ (p : ℕ). (low < p) × Climbs book p notes high) places (subst (Behind (λ (mark : ℕ). Climbs book mark notes high) low at) counted climbs)
+    subst (λ (p : ℕ). (low < p) × Climbs book p notes high) places (subst (Behind (λ (mark : ℕ). Climbs book mark notes high) low spot) counted climbs)
 
 climbs_get : (book notes : List Note) (low high k number place : ℕ) (results : List Res) (items : List Item) → Climbs book low notes high
     → slice_get notes k ≡ Some (Answered number (Results results) place) → op_of book number ≡ Some (Write items) → low < place

@@ -1,11 +1,9 @@
 -- What a line writes is what is noted of it, and reads see what was applied.
-use Rattle.std.proofs.Common.{◌≡◌, ◌⊎◌, inl, inr, ℕ, zero, suc, ◌+◌, ◌-◌, ◌==◌, ◌||◌, ◌^◌, nat_eq, nat_lt, List, [], ◌∷◌, ◌++◌, length, take, slice_get, Bool, true, false, if◌then◌else◌, bytes_eq, Option, Some, None, option_and_then, refl, sym, ◌∙◌, ap, subst, append_assoc, arith}
+use Rattle.std.proofs.Common.{◌≡◌, inl, inr, ℕ, zero, suc, ◌+◌, ◌-◌, ◌==◌, ◌||◌, ◌^◌, nat_eq, List, [], ◌∷◌, ◌++◌, take, slice_get, Bool, true, false, if◌then◌else◌, bytes_eq, Option, Some, None, option_and_then, refl, sym, ◌∙◌, ap, subst, append_assoc, arith}
 use Rattle.std.specs.Prelude.{⊤}
 use Rattle.std.specs.Option.{option_map}
 use Rattle.std.proofs.lemmas.List.{append-nil}
 use Rattle.rq_engine.specs.declared.item.Item.{Item}
-use Rattle.rq_engine.specs.declared.command.Res.{Res}
-use Rattle.rq_engine.specs.declared.say.Say.{Say}
 use Rattle.rq_engine.specs.declared.say.Say.TheVariants.{Results}
 use Rattle.rq_engine.specs.declared.say.Answer.{Answer}
 use Rattle.rq_engine.specs.Meaning.{answers}
@@ -16,7 +14,7 @@ use Rattle.rq_node.specs.Files.{first_kept}
 use Rattle.rq_script.specs.ScriptLine.{Line, Skip, Cluster as ClusterLine, Elect, Apply, Execute, Query, Stop, StopWithin, Start, Show, line_of}
 use Rattle.rq_script.specs.ScriptText.{answers_text}
 use Rattle.rq_script.specs.Cluster.{Stand, Running, Down, Server, Cluster, Written, new_server, Fault, NoFault, Reading, Storing, Course, Fate, Done, Struck, Failed, fate, ended, happens, happens_at, opens, starts, stops, arms, shown, at_server, event_at, ask_at, founded, done, step, Steps}
-use Rattle.rq_script.specs.History.{Op, Write, Read, Note, Asked, Answered, at_place, said_by, said, applying, node_at, node_in, said_at, asking, applying_at, notes, notes_of}
+use Rattle.rq_script.specs.History.{Op, Write, Read, Note, Asked, Answered, at_place, said_by, said, applying, node_at, node_in, asking, applying_at, notes, notes_of}
 use Rattle.rq_script.specs.Promise.{op_of}
 use Rattle.rq_script.specs.Telling.{answers_in, IsState, is_up, is_down, is_shown, is_shown_down, Tells, SeesApplied, ReadsSeeApplied}
 use Rattle.rq_script.proofs.Histories.{places_ask_nothing, applying_asks_nothing, apply_stores}

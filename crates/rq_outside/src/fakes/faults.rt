@@ -1,5 +1,6 @@
 // The calls of a fake that are to fail.
-ghost use Rattle.std.specs.Prelude.{◌≡◌, ◌≢◌, ◌≤◌, true, IsNone, ◌↔◌};
+ghost use Rattle.std.specs.Prelude.{◌≡◌, ◌≢◌, ◌≤◌, ◌+◌, ◌-◌, ◌^◌, ℕ, min, nat_eq, true, IsNone, ◌↔◌};
+ghost use Rattle.std.specs.List.{list_any};
 ghost use Rattle.rq_outside.specs.Counts.{Rose};
 
 /// The numbers, from 1, of the calls that are to fail, and how many were made and have failed so far.
@@ -23,13 +24,16 @@ impl Faults {
 
     /// Counts a call, and tells whether it is to fail.
     pub fn strikes(&mut self) -> bool
+        ensures stated { result ≡ list_any (λ (call : ℕ). nat_eq call self.new.calls) self.old.stated.items }
+        ensures counted { self.new.calls ≡ min (self.old.calls + 1) (2 ^ 64 - 1) }
+        ensures same { self.new.stated.items ≡ self.old.stated.items }
         ensures struck { result ≡ true → Rose self.old.count self.new.count }
         ensures passed { result ≢ true → self.new.count ≡ self.old.count }
         ensures later { self.old.count ≤ self.new.count }
     {
         self.calls = self.calls.saturating_add(1);
         let now = self.calls;
-        if self.stated.iter().any(|call| *call == now) {
+        if self.stated.contains(&now) {
             self.raise();
             return true;
         }
@@ -38,6 +42,8 @@ impl Faults {
 
     /// Counts a fault.
     pub fn raise(&mut self)
+        ensures counted { self.new.calls ≡ self.old.calls }
+        ensures same { self.new.stated.items ≡ self.old.stated.items }
         ensures rose { Rose self.old.count self.new.count }
         ensures later { self.old.count ≤ self.new.count }
     {

@@ -17,7 +17,7 @@ impl Script {
 
     /// The first number to come, and none past the last.
     pub fn take(&mut self) -> Option<u64>
-        ensures { MatchOption result (self.new ≡ self.old) (λ number. drop self.old.given self.old.numbers.items ≡ number ∷ drop self.new.given self.new.numbers.items) }
+        ensures { MatchOption result ((self.new ≡ self.old) × (length self.old.numbers.items ≤ self.old.given)) (λ number. drop self.old.given self.old.numbers.items ≡ number ∷ drop self.new.given self.new.numbers.items) }
     {
         if self.given >= self.numbers.len() {
             return None;
