@@ -5,3 +5,4 @@ mod Kept
 mod NodeSteps
 mod Openings
 mod Readable
+mod Refusals

@@ -12,6 +12,7 @@ use Rattle.rq_node.specs.Files.{first_base, stored_of}
 use Rattle.rq_node.specs.declared.error.NodeError.{NodeError}
 use Rattle.rq_node.specs.declared.error.NodeError.TheVariants as errors
 use Rattle.rq_node.specs.Node.{Node, Kept, Durable, Boot, kept_of, kept_with, kept_after}
+use Rattle.rq_node.specs.Opened.{refusal_of, IsRefusal}
 use Rattle.rq_node.specs.Rules.{started}
 use Rattle.rq_node.specs.Sound.{AreReadable}
 use Rattle.rq_node.specs.Standing.{HasFile, IsSomeOf, Stands, CanBeRead, FailedOpening}
@@ -96,3 +97,18 @@ boot_refused {T} (Err e) S (inr none) stands = inr (stands (ap (refuses {T = T})
 pub files_refused : (S : Type 0) (e : NodeError) → S → (e ≡ errors.Disk) ⊎ (e ≡ errors.NoMemory) → IsRefused S e
 files_refused S e stands (inl disk) = inl disk
 files_refused S e stands (inr none) = inr (stands, inl none)
+
+-- whatever else may have been the cause
+pub refuses_more : {T : Type 0} (r : Result T NodeError) (P : NodeError → Type 0) → IfErr r (λ e. (e ≡ errors.Disk) ⊎ (e ≡ errors.NoMemory)) → IfErr r (λ e. (e ≡ errors.Disk) ⊎ (e ≡ errors.NoMemory) ⊎ P e)
+refuses_more (Ok x) P refused = tt
+refuses_more (Err e) P (inl disk) = inl disk
+refuses_more (Err e) P (inr none) = inr (inl none)
+
+pub state_refused : (reading : Result Stored OpenError) (stored : Stored) (e : NodeError) → reading ≡ Ok stored → (e ≡ errors.NoMemory) ⊎ IsRefusal (Ok stored) e → (e ≡ errors.Disk) ⊎ (e ≡ errors.NoMemory) ⊎ IsRefusal reading e
+state_refused reading stored e is (inl none) = inr (inl none)
+state_refused reading stored e is (inr refusal) = inr (inr (subst (λ (r : Result Stored OpenError). IsRefusal r e) (sym is) refusal))
+
+pub files_refuse : (reading : Result Stored OpenError) (refused : OpenError) (e : NodeError) → e ≡ refusal_of refused → (refused ≡ opening.Disk) ⊎ (refused ≡ opening.NoMemory) ⊎ (reading ≡ Err refused) → (e ≡ errors.Disk) ⊎ (e ≡ errors.NoMemory) ⊎ IsRefusal reading e
+files_refuse reading refused e told (inl disk) = inl (told ∙ ap refusal_of disk)
+files_refuse reading refused e told (inr (inl none)) = inr (inl (told ∙ ap refusal_of none))
+files_refuse reading refused e told (inr (inr is)) = inr (inr (subst (λ (r : Result Stored OpenError). IsRefusal r e) (sym is) told))

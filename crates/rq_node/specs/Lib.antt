@@ -1,5 +1,6 @@
 pub mod Files
 pub mod Node
+pub mod Opened
 pub mod Rules
 pub mod Sound
 pub mod Standing

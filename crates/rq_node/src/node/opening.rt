@@ -1,22 +1,26 @@
 //! Starting a node: docs/RAFT.md, "Start".
-ghost use Rattle.std.specs.Prelude.{◌≡◌, ◌⊎◌, ◌≤◌, ◌+◌, ◌++◌, ◌∷◌, ◌^◌, [], List, ℕ, length, map, take, Ok, Some, IsTrue, IfOk, IfErr, OnOk, OnErr, IsErrOf, All};
+ghost use Rattle.std.specs.Prelude.{◌≡◌, ◌≢◌, ◌⊎◌, ◌≤◌, ◌<◌, ◌+◌, ◌++◌, ◌∷◌, ◌^◌, [], List, ℕ, length, map, take, Ok, Some, IsTrue, IfOk, IfErr, OnOk, OnErr, IsErrOf, All};
 ghost use Rattle.rq_values.specs.Text.{is_addr};
-ghost use Rattle.rq_outside.specs.Pair.{arm_of};
+ghost use Rattle.rq_outside.specs.Pair.{arm_of, disk_at};
+ghost use Rattle.rq_outside.specs.declared.pair.FileNo.TheVariants.{One, Two};
 ghost use Rattle.rq_outside.specs.declared.pair.Arm.TheVariants.{Struck};
 ghost use Rattle.rq_wire.specs.declared.entry.Entry.{Entry as TheEntry};
 ghost use Rattle.rq_wal.specs.Calls.{PassesMost};
 ghost use Rattle.rq_wal.specs.Current.{IsCurrent, EachImageGives};
 ghost use Rattle.rq_wal.specs.Later.{Later, DeviceRose};
 ghost use Rattle.rq_wal.specs.declared.error.OpenError.TheVariants as opening;
-ghost use Rattle.rq_node.specs.declared.error.NodeError.TheVariants.{Disk as DiskFailed, NoMemory as OutOfMemory, Ended};
+ghost use Rattle.rq_wal.specs.Reading.{pair_gives};
+ghost use Rattle.rq_node.specs.declared.error.NodeError.TheVariants.{Disk as DiskFailed, NoMemory as OutOfMemory, Command, Ended};
 ghost use Rattle.rq_node.specs.Node.{Kept, Durable, Boot, kept_of, kept_with, kept_after};
 ghost use Rattle.rq_node.specs.declared.log_entry.LogEntry.{LogEntry as TheLogEntry};
 ghost use Rattle.rq_node.specs.declared.log_entry.Content.{Content as TheContent};
 ghost use Rattle.rq_node.specs.declared.log_entry.Content.TheVariants.{Execute};
+ghost use Rattle.rq_command.specs.declared.error.CommandError.{CommandError as TheError};
 ghost use Rattle.rq_command.specs.declared.error.CommandError.TheVariants as commands;
 ghost use Rattle.rq_engine.specs.declared.item.Item.{Item as TheItem};
 ghost use Rattle.rq_engine.specs.Command.{execute_bytes};
 ghost use Rattle.rq_node.specs.Files.{first_base, first_image, body_of, stored_entry, stored_of};
+ghost use Rattle.rq_node.specs.Opened.{refusal_of, most_boots, IsNoCommand, IsNoEntry, IsNoLog, IsRefusal, IsStart};
 ghost use Rattle.rq_node.specs.Rules.{started};
 ghost use Rattle.rq_node.specs.Sound.{AreReadable, IsKeptReadable};
 ghost use Rattle.rq_node.specs.Standing.{HasFile, IsOpen, IsSomeOf, Stands, CanBeRead, FailedOpening};
@@ -47,6 +51,8 @@ impl Node {
     /// times, and for want of memory.
     pub fn open<D: Disk>(alloc: Global, disks: &mut DiskPair<D>, id: Id) -> Result<Node, NodeError>
         ensures node { IsTrue D.told → (kept : Kept) (items : List Durable) → CanBeRead kept items → Stands D.told D.means disks.old id kept items → IfOk result (λ node. (k : ℕ) × (node.state ≡ (started id (kept_after kept (take k items))).node)) }
+        ensures gives { IsTrue D.told → IfOk result (λ node. IsStart id (pair_gives (first_base id) (D.means (disk_at disks.old One)).content (D.means (disk_at disks.old Two)).content) node.state) }
+        ensures refusals { IsTrue D.told → IfErr result (λ e. (e ≡ DiskFailed) ⊎ (e ≡ OutOfMemory) ⊎ IsRefusal (pair_gives (first_base id) (D.means (disk_at disks.old One)).content (D.means (disk_at disks.old Two)).content) e) }
         ensures open { IfOk result (λ node. IsOpen D.told D.means disks.new node) }
         ensures failed { IsErrOf result DiskFailed → (kept : Kept) (items : List Durable) → CanBeRead kept items → Stands D.told D.means disks.old id kept items → FailedOpening D.told D.means disks.new id kept items }
         ensures refused { IsTrue D.told → (kept : Kept) (items : List Durable) → CanBeRead kept items → Stands D.told D.means disks.old id kept items → IfErr result (λ e. (e ≡ DiskFailed) ⊎ (Stands D.told D.means disks.new id kept items × ((e ≡ OutOfMemory) ⊎ ((boot : ℕ) × (e ≡ Ended boot))))) }
@@ -71,6 +77,8 @@ fn open_files<D: Disk>(
     id: Id,
 ) -> Result<(WalFile, Stored), NodeError>
     ensures current { IfOk result (λ opened. IsTrue D.told → IsCurrent D.means (first_base id) disks.new opened.0 opened.1) }
+    ensures gives { IsTrue D.told → IfOk result (λ opened. pair_gives (first_base id) (D.means (disk_at disks.old One)).content (D.means (disk_at disks.old Two)).content ≡ Ok opened.1) }
+    ensures refusals { IsTrue D.told → IfErr result (λ e. (e ≡ DiskFailed) ⊎ (e ≡ OutOfMemory) ⊎ IsRefusal (pair_gives (first_base id) (D.means (disk_at disks.old One)).content (D.means (disk_at disks.old Two)).content) e) }
     ensures given { IsTrue D.told → (kept : Kept) (items : List Durable) → Stands D.told D.means disks.old id kept items → IfOk result (λ opened. IsSomeOf id kept items (Ok opened.1)) }
     ensures stands { (kept : Kept) (items : List Durable) → Stands D.told D.means disks.old id kept items → Stands D.told D.means disks.new id kept items }
     ensures refused { IsTrue D.told → (kept : Kept) (items : List Durable) → Stands D.told D.means disks.old id kept items → IfErr result (λ e. (e ≡ DiskFailed) ⊎ (e ≡ OutOfMemory)) }
@@ -87,6 +95,7 @@ fn open_files<D: Disk>(
 
 /// The refusal of a node for one of its files.
 fn refusal(error: OpenError) -> NodeError
+    ensures told { result ≡ refusal_of error }
     ensures disk { (error ≡ opening.Disk → result ≡ DiskFailed) × (result ≡ DiskFailed → error ≡ opening.Disk) }
     ensures no_memory { error ≡ opening.NoMemory → result ≡ OutOfMemory }
 {
@@ -100,7 +109,8 @@ fn refusal(error: OpenError) -> NodeError
 
 /// What a node knows when it has booted once more over what was stored.
 fn started_state(alloc: Global, id: Id, stored: Stored) -> Result<State, NodeError>
-    ensures from { IfOk result (λ state. (kept : Kept) × (state ≡ (started id kept).node) × (stored.base ≡ first_base id → stored ≡ stored_of id kept)) }
+    ensures from { IfOk result (λ state. (kept : Kept) × (state ≡ (started id kept).node) × (stored.base ≡ first_base id → stored ≡ stored_of id kept) × AreReadable kept.log × (kept.boot < most_boots)) }
+    ensures wrong { IfErr result (λ e. (e ≡ OutOfMemory) ⊎ IsRefusal (Ok stored) e) }
     ensures ok { (kept : Kept) → AreReadable kept.log → stored ≡ stored_of id kept → IfOk result (λ state. state ≡ (started id kept).node) }
     ensures refused { (kept : Kept) → AreReadable kept.log → stored ≡ stored_of id kept → IfErr result (λ e. (e ≡ OutOfMemory) ⊎ ((boot : ℕ) × (e ≡ Ended boot))) }
     ensures no_disk { IsErrOf result DiskFailed → ⊥ }
@@ -158,6 +168,7 @@ fn log_of(alloc: Global, entries: &[Entry]) -> Result<Vec<LogEntry>, NodeError>
     ensures no_disk { IsErrOf result DiskFailed → ⊥ }
     ensures ok { (log : List TheLogEntry) → AreReadable log → entries.now ≡ map stored_entry log → IfOk result (λ found. found.items ≡ log) }
     ensures refused { (log : List TheLogEntry) → AreReadable log → entries.now ≡ map stored_entry log → IfErr result (λ e. e ≡ OutOfMemory) }
+    ensures wrong { IfErr result (λ e. (e ≡ OutOfMemory) ⊎ IsNoLog entries.now e) }
 {
     let mut log = Vec::new(alloc);
     for place in 0..entries.len() {
@@ -176,6 +187,7 @@ fn entry_of(alloc: Global, index: u64, entry: &Entry) -> Result<LogEntry, NodeEr
     ensures no_disk { IsErrOf result DiskFailed → ⊥ }
     ensures ok { (kept : TheLogEntry) → IsKeptReadable kept.content → entry.now ≡ stored_entry kept → IfOk result (λ found. found ≡ kept) }
     ensures refused { (kept : TheLogEntry) → IsKeptReadable kept.content → entry.now ≡ stored_entry kept → IfErr result (λ e. e ≡ OutOfMemory) }
+    ensures wrong { IfErr result (λ e. (e ≡ OutOfMemory) ⊎ IsNoEntry index entry.now.body e) }
 {
     let content = content_of(alloc, index, &entry.body)?;
     Ok(LogEntry {
@@ -191,6 +203,7 @@ fn content_of(alloc: Global, index: u64, body: &Body) -> Result<Content, NodeErr
     ensures no_disk { IsErrOf result DiskFailed → ⊥ }
     ensures ok { (content : TheContent) → IsKeptReadable content → body.now ≡ body_of content → IfOk result (λ found. found ≡ content) }
     ensures refused { (content : TheContent) → IsKeptReadable content → body.now ≡ body_of content → IfErr result (λ e. e ≡ OutOfMemory) }
+    ensures wrong { IfErr result (λ e. (e ≡ OutOfMemory) ⊎ IsNoEntry index body.now e) }
 {
     match body {
         Body::NoOp => Ok(Content::NoOp),
@@ -198,6 +211,7 @@ fn content_of(alloc: Global, index: u64, body: &Body) -> Result<Content, NodeErr
         Body::Data(command) => Ok(Content::Execute(list_of(alloc, index, command.bytes())?)),
     }
 }
+
 /// The list that a command of the entry at this index runs.
 fn list_of(alloc: Global, index: u64, command: &[u8]) -> Result<Seq<Item>, NodeError>
     ensures readable { IfOk result (λ items. IsKeptReadable (Execute items)) }
@@ -205,6 +219,7 @@ fn list_of(alloc: Global, index: u64, command: &[u8]) -> Result<Seq<Item>, NodeE
     ensures no_disk { IsErrOf result DiskFailed → ⊥ }
     ensures ok { (items : List TheItem) → IsKeptReadable (Execute items) → command.now ≡ execute_bytes items → IfOk result (λ found. found ≡ items) }
     ensures refused { (items : List TheItem) → IsKeptReadable (Execute items) → command.now ≡ execute_bytes items → IfErr result (λ e. e ≡ OutOfMemory) }
+    ensures wrong { IfErr result (λ e. (e ≡ OutOfMemory) ⊎ ((error : TheError) × (e ≡ Command index error) × IsNoCommand command.now error)) }
 {
     if command.len() > MOST_BYTES {
         let len = u32::try_from(command.len()).unwrap_or(u32::MAX);
@@ -221,6 +236,7 @@ fn list_of(alloc: Global, index: u64, command: &[u8]) -> Result<Seq<Item>, NodeE
 
 /// The refusal of a node for a command at this index.
 fn no_command(index: u64, error: CommandError) -> NodeError
+    ensures told { ((error ≡ commands.NoMemory) × (result ≡ OutOfMemory)) ⊎ ((error ≢ commands.NoMemory) × (result ≡ Command index error)) }
     ensures no_disk { result ≡ DiskFailed → ⊥ }
     ensures no_memory { error ≡ commands.NoMemory → result ≡ OutOfMemory }
 {

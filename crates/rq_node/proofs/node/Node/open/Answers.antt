@@ -1,12 +1,16 @@
-use Rattle.std.proofs.Common.{◌≡◌, inr, ◌∷◌, [], ℕ, take, subst}
+use Rattle.std.proofs.Common.{◌≡◌, ◌∙◌, inr, ◌∷◌, [], ℕ, take, Ok, ap, subst}
 use Rattle.rq_wal.specs.declared.base.Stored.{Stored}
 use Rattle.rq_wal.specs.Current.{IsCurrent, EachImageGives}
 use Rattle.rq_node.specs.declared.node.Node.{Node as Running}
 use Rattle.rq_node.specs.Files.{first_base, stored_of}
 use Rattle.rq_node.specs.Node.{Node, Boot, kept_after}
+use Rattle.rq_node.specs.Opened.{IsRefusal, IsStart}
 use Rattle.rq_node.specs.Rules.{started}
+use Rattle.rq_outside.specs.Pair.{disk_at}
+use Rattle.rq_outside.specs.declared.pair.FileNo.TheVariants.{One, Two}
+use Rattle.rq_wal.specs.Reading.{pair_gives}
 use Rattle.rq_node.specs.Standing.{Stands}
-use Rattle.rq_node.proofs.Openings.{current_base, taken, some_given, failed_boot, started_file, booted, ok_more, boot_refused, files_refused}
+use Rattle.rq_node.proofs.Openings.{current_base, taken, some_given, failed_boot, started_file, booted, ok_more, boot_refused, files_refused, refuses_more, state_refused}
 use Rattle.rq_node.proofs.node.Node.open.Goals as goal
 
 pub store_boot-requires-clause-open : goal.store_boot-requires-clause-open
@@ -70,3 +74,31 @@ returns-in-Err-started_state-clause-refused g c = λ tells kept items can stands
 pub returns-in-Err-clause-refused : goal.returns-in-Err-clause-refused
 returns-in-Err-clause-refused g c = λ tells kept items can stands.
     files_refused (Stands g.D.Disk.told g.D.Disk.means c.open_files.new.disks c.args.id kept items) c.in-Err.error (c.open_files.ensures.stands kept items stands) (c.in-Err.ensures.refused tells kept items stands)
+
+pub returns-in-Ok-started_state-clause-gives : goal.returns-in-Ok-started_state-clause-gives
+returns-in-Ok-started_state-clause-gives g c = λ tells.
+    let means = g.D.Disk.means in
+    let from = c.in-Ok-started_state.ensures.from in
+    let state = c.in-Ok-started_state.state in
+    let reading = pair_gives (first_base c.args.id) (means (disk_at c.args.disks.now One)).content (means (disk_at c.args.disks.now Two)).content in
+    let base = current_base means c.open_files.new.disks c.args.id c.in-Ok.wal c.in-Ok.stored (c.in-Ok.ensures.current tells) in
+    ok_more c.store_boot.result (λ (n : Running). n.state ≡ state) (λ (n : Running). IsStart c.args.id reading n.state)
+    (λ n same. record {
+      kept = from.0;
+      is = c.in-Ok.ensures.gives tells ∙ ap (λ (s : Stored). Ok s) (from.2 base);
+      readable = from.3;
+      boots = from.4;
+      node_is = same ∙ from.1;
+    }) c.store_boot.ensures.state
+
+pub returns-in-Ok-started_state-clause-refusals : goal.returns-in-Ok-started_state-clause-refusals
+returns-in-Ok-started_state-clause-refusals g c = λ tells.
+    let means = g.D.Disk.means in
+    let reading = pair_gives (first_base c.args.id) (means (disk_at c.args.disks.now One)).content (means (disk_at c.args.disks.now Two)).content in
+    refuses_more c.store_boot.result (IsRefusal reading) c.store_boot.ensures.refused
+
+pub returns-in-Err-started_state-clause-refusals : goal.returns-in-Err-started_state-clause-refusals
+returns-in-Err-started_state-clause-refusals g c = λ tells.
+    let means = g.D.Disk.means in
+    let reading = pair_gives (first_base c.args.id) (means (disk_at c.args.disks.now One)).content (means (disk_at c.args.disks.now Two)).content in
+    state_refused reading c.in-Ok.stored c.in-Err-started_state.error (c.in-Ok.ensures.gives tells) c.in-Err-started_state.ensures.wrong

@@ -1,4 +1,5 @@
 use Rattle.rq_node.proofs.Readable.{command_is, readable_is, the_items, the_error}
+use Rattle.rq_node.proofs.Refusals.{no_command}
 use Rattle.rq_node.proofs.node.opening.list_of.Goals as goal
 
 pub returns-in-Ok-clause-ok : goal.returns-in-Ok-clause-ok
@@ -9,3 +10,6 @@ returns-in-Err-clause-refused c = λ items readable is. c.no_command.ensures.no_
 
 pub returns-in-Ok-clause-readable : goal.returns-in-Ok-clause-readable
 returns-in-Ok-clause-readable c = readable_is c.args.command.now c.in-Ok.items c.in-Ok.ensures.ok.0 c.if-command-gt-MOST_BYTES.false c.in-Ok.ensures.ok.1
+
+pub returns-in-Err-clause-wrong : goal.returns-in-Err-clause-wrong
+returns-in-Err-clause-wrong c = no_command c.args.command.now c.args.index c.decode_execute.result c.in-Err.error c.no_command.result c.decode_execute.ensures.answer c.in-Err.is c.no_command.ensures.told

@@ -3,6 +3,7 @@ use Rattle.rq_node.specs.declared.log_entry.LogEntry.{LogEntry}
 use Rattle.rq_node.specs.Files.{stored_entry}
 use Rattle.rq_node.specs.Sound.{AreReadable}
 use Rattle.rq_node.proofs.Readable.{IsFront, readable_more, spelled_more, front_more, place_in, stored_at}
+use Rattle.rq_node.proofs.Refusals.{no_log}
 use Rattle.rq_node.proofs.node.opening.log_of.Goals as goal
 
 pub returns-in-Err-clause-refused : goal.returns-in-Err-clause-refused
@@ -20,3 +21,8 @@ loop-place-preserved c =
       front = subst (IsFront c.args.entries.now (c.loop-place.place + 1)) (sym grown)
           (front_more c.args.entries.now c.loop-place.place c.loop-place.log.items c.index-entries-place.result c.in-Ok.entry c.loop-place-test.true c.index-entries-place.is c.in-Ok.ensures.ok c.loop-place.invariant.front);
     }
+
+pub returns-in-Err-clause-wrong : goal.returns-in-Err-clause-wrong
+returns-in-Err-clause-wrong c =
+    no_log c.args.entries.now c.loop-place.place c.index-entries-place.result c.loop-place.log.items c.in-Err.error c.loop-place-test.true c.index-entries-place.is
+    c.loop-place.invariant.spelled c.loop-place.invariant.readable c.in-Err.ensures.wrong

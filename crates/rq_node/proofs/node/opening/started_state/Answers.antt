@@ -1,4 +1,4 @@
-use Rattle.std.proofs.Common.{◌≡◌, ◌∙◌, ◌+◌, map, sym}
+use Rattle.std.proofs.Common.{◌≡◌, ◌∙◌, ◌+◌, map, sym, arith}
 use Rattle.rq_node.specs.Files.{stored_entry}
 use Rattle.rq_node.specs.declared.role.Role.TheVariants.{Follower}
 use Rattle.rq_node.proofs.node.opening.started_state.Goals as goal
@@ -21,4 +21,6 @@ returns-clause-from c =
         database = c.new-2.ensures i;
       }),
       λ base. λ i. record { base = base i; term = stored.term; vote = stored.vote; boot = stored.boot; entries = entries i },
+      c.in_ok-log.ensures.readable,
+      omega (arith, c.if-stored-ge-MOST_BOOTS.false),
     )
