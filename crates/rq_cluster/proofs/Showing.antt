@@ -114,7 +114,7 @@ module _ {D F : Type 0} (told : Bool) (means : D → DiskMeaning) where
         subst (λ (host : Option Host). ShowsHost told means before now host None) (sym none)
             (tells, new_at 0 now n, subst (λ (p : DiskPair D F). Rises told means 0 p now) (same before now b n) (rises_none now)),
       );
-      others = λ k pair _ at. new_at k pair at;
+      others = λ k above. refl;
     }
       where
         same : (before now : DiskPair D F) → slice_get pairs 0 ≡ Some before → slice_get pairs 0 ≡ Some now → now ≡ before

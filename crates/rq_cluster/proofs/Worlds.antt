@@ -174,10 +174,10 @@ first_set : {T : Type 0} (xs : List T) (x y : T) → slice_get (set xs 0 y) 0 �
 first_set [] x y at = absurd (cc)
 first_set (z ∷ xs) x y at = let e : Some y ≡ Some x = at in cc
 
-other_set : {T : Type 0} (xs : List T) (k : ℕ) (x y : T) → 0 < k → slice_get (set xs 0 y) k ≡ Some x → slice_get xs k ≡ Some x
-other_set [] k x y above at = at
-other_set (z ∷ xs) zero x y above at = absurd (omega (arith, above))
-other_set (z ∷ xs) (suc k) x y above at = at
+other_set : {T : Type 0} (xs : List T) (k : ℕ) (y : T) → 0 < k → slice_get (set xs 0 y) k ≡ slice_get xs k
+other_set [] k y above = refl
+other_set (z ∷ xs) zero y above = absurd (omega (arith, above))
+other_set (z ∷ xs) (suc k) y above = refl
 
 same_some : {T : Type 0} (o : Option T) (x y : T) → o ≡ Some x → o ≡ Some y → x ≡ y
 same_some o x y one two = cc
@@ -200,7 +200,7 @@ module _ {D F : Type 0} (told : Bool) (means : D → DiskMeaning) (pairs : List 
           first = λ was now b n.
               subst (λ (p : DiskPair D F). ShowsCluster told means p now to d.0) (same_some (slice_get start 0) s.0 was s.1 b)
               (subst (λ (p : DiskPair D F). ShowsCluster told means s.0 p to d.0) (sym (first_set pairs now new n)) d.4);
-          others = λ k pair above at. shows.others k pair above (other_set pairs k pair new above at);
+          others = λ k above. other_set pairs k new above ∙ shows.others k above;
         },
       )
 
@@ -209,7 +209,7 @@ module _ {D F : Type 0} (told : Bool) (means : D → DiskMeaning) (pairs : List 
     holds reached stands = record {
       count = length-set pairs 0 new ∙ shows.count;
       first = λ was now b n. subst (λ (p : DiskPair D F). ServerStands told means was p reached.server) (sym (first_set pairs now new n)) (stands was b);
-      others = λ k pair above at. shows.others k pair above (other_set pairs k pair new above at);
+      others = λ k above. other_set pairs k new above ∙ shows.others k above;
     }
 
     -- the line can't stand here

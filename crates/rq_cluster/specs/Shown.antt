@@ -91,7 +91,7 @@ module _ {D F : Type 0} (told : Bool) (means : D → DiskMeaning) where
     pub began : length start ≡ 9
     pub count : length pairs ≡ 9
     pub first : (before now : DiskPair D F) → slice_get start 0 ≡ Some before → slice_get pairs 0 ≡ Some now → ShowsCluster before now world c
-    pub others : (k : ℕ) (pair : DiskPair D F) → 0 < k → slice_get pairs k ≡ Some pair → IsNew told means pair
+    pub others : (k : ℕ) → 0 < k → slice_get pairs k ≡ slice_get start k
 
   -- ---- events
 

@@ -34,11 +34,11 @@ module _ {D F : Type 0} (told : Bool) (means : D → DiskMeaning) where
   ServerStands start pair None = IsNew pair × Rises 0 start pair
   ServerStands start pair (Some s) = StandsAs pair s.id s.stand × Rises s.failures start pair
 
-  -- nine pairs: the first is the one server's, and the others are new
+  -- nine pairs: the first is the one server's, and the others are as they were
   pub record Holds (start pairs : List (DiskPair D F)) (c : Cluster) : Type 0 where
     pub count : length pairs ≡ 9
     pub first : (before now : DiskPair D F) → slice_get start 0 ≡ Some before → slice_get pairs 0 ≡ Some now → ServerStands before now c.server
-    pub others : (k : ℕ) (pair : DiskPair D F) → 0 < k → slice_get pairs k ≡ Some pair → IsNew pair
+    pub others : (k : ℕ) → 0 < k → slice_get pairs k ≡ slice_get start k
 
   -- nine new pairs
   pub record AreNew (pairs : List (DiskPair D F)) : Type 0 where

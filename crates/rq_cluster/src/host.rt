@@ -7,6 +7,7 @@ ghost use Rattle.rq_node.specs.Rules as rules_of;
 ghost use Rattle.rq_node.specs.Sound.{IsReadable};
 ghost use Rattle.rq_script.specs.Cluster.{numbers as numbers_of, left_after};
 ghost use Rattle.rq_script.specs.ScriptText.{down_text, pending_text};
+ghost use Rattle.rq_cluster.specs.declared.arming.Arming.{Arming as TheArming};
 ghost use Rattle.rq_cluster.specs.Acting as act;
 ghost use Rattle.rq_cluster.specs.Acting.{pending_at, asked_of, HasStruck, Crashed};
 ghost use Rattle.rq_cluster.specs.Shown.{HostReady, IsArmed, LetsPass, Goes, BreaksOff, armed_of};
@@ -198,6 +199,7 @@ impl Host {
         ensures ok { OnOk result (Goes D.told D.means act.stop disks.old disks.new self.old self.new text.old.items text.new.items) }
         ensures ready { OnOk result (HostReady D.told D.means disks.new self.new) }
         ensures broken { OnErr result (BreaksOff D.told D.means act.stop disks.old disks.new self.old) }
+        ensures picked { IsTrue D.told → (file : FileNo) → (D.means (disk_at disks.new file)).content ≡ D.picked 0 (disk_at disks.old file) }
     {
         current_logs_stand::<D>();
         let Some(node) = self.node.take() else {
@@ -280,6 +282,7 @@ impl Host {
         ensures lost { OnOk result (self.new.lost.items ≡ self.old.lost.items ++ (numbers_of state.now.waiting ++ asked_of asked)) }
         ensures text { OnOk result (text.new.items ≡ text.old.items ++ down_text self.old.id) }
         ensures struck { HasStruck (arm_of disks.old) self.old.armed → Crashed D.told D.means disks.old disks.new }
+        ensures picked { (arming : TheArming) → self.old.armed ≡ Some arming → HasStruck (arm_of disks.old) self.old.armed → IsTrue D.told → (file : FileNo) → (D.means (disk_at disks.new file)).content ≡ D.picked arming.pick (disk_at disks.old file) }
         ensures struck_failures { HasStruck (arm_of disks.old) self.old.armed → OnOk result (self.new.failures ≡ self.old.failures) }
         ensures failed { (HasStruck (arm_of disks.old) self.old.armed → ⊥) → disks.new ≡ disks.old }
         ensures failures { (HasStruck (arm_of disks.old) self.old.armed → ⊥) → OnOk result (self.new.failures ≡ self.old.failures + 1) }

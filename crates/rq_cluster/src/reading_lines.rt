@@ -1,5 +1,5 @@
 // A source, read to its end.
-ghost use Rattle.std.specs.Prelude.{◌≡◌, ◌≤◌, ◌++◌, List, ℕ, IsTrue, OnOk, OnErr, IsErrOf};
+ghost use Rattle.std.specs.Prelude.{◌≡◌, ◌≤◌, ◌++◌, [], List, ℕ, IsTrue, OnOk, OnErr, IsErrOf};
 ghost use Rattle.rq_outside.specs.Counts.{Rose};
 ghost use Rattle.rq_outside.specs.declared.pair.DiskPair.{DiskPair as ThePair};
 ghost use Rattle.rq_cluster.specs.Shown.{IsReady};
@@ -24,6 +24,7 @@ pub fn read_all<S: Source, D: CrashDisk, K: Sink>(
 ) -> Result<(), Stop>
     requires ready { IsReady D.told D.means disks.old.items progress.old.world }
     ensures ok { IsTrue S.told → OnOk result (GoesOn D.told D.means disks.old.items disks.new.items K.told (K.taken sink.old) (K.taken sink.new) progress.old progress.new (S.left source.old)) }
+    ensures drained { IsTrue S.told → OnOk result (S.left source.new ≡ []) }
     ensures ready { OnOk result (IsReady D.told D.means disks.new.items progress.new.world) }
     ensures outside { IsErrOf result StopOutside → IsTrue S.told → Stopped D.told D.means disks.old.items disks.new.items K.told (K.taken sink.old) (K.taken sink.new) progress.old (S.left source.old) (λ start. StopsKept (Holds D.told D.means start disks.new.items) progress.new.number) }
     ensures fault { IsErrOf result StopSource → IsTrue S.told → (read : List ℕ) × (S.left source.old ≡ read ++ S.left source.new) × GoesOn D.told D.means disks.old.items disks.new.items K.told (K.taken sink.old) (K.taken sink.new) progress.old progress.new read }

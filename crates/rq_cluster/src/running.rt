@@ -1,11 +1,13 @@
 // The top call: words, then the script of a source.
-ghost use Rattle.std.specs.Prelude.{◌≡◌, ◌≤◌, ◌⊎◌, ◌++◌, List, ℕ, IsTrue, IsSome, Some, None};
+ghost use Rattle.std.specs.Prelude.{◌≡◌, ◌≤◌, ◌⊎◌, ◌++◌, [], List, ℕ, IsTrue, IsSome, Some, None};
 ghost use Rattle.rq_outside.specs.Counts.{Rose};
 ghost use Rattle.rq_script.specs.Cluster.{Server, Cluster, Steps};
-ghost use Rattle.rq_script.specs.History.{history, node_in};
+ghost use Rattle.rq_script.specs.History.{history, node_in, notes_of};
 ghost use Rattle.rq_script.specs.Lines.{Line, IsWithin};
 ghost use Rattle.rq_script.specs.Promise.{IsKept, Keeps, Grows};
 ghost use Rattle.rq_script.specs.Runs.{Runs};
+ghost use Rattle.rq_script.specs.ScriptLine.{line_of};
+ghost use Rattle.rq_script.specs.Telling.{Tells, ReadsSeeApplied};
 ghost use Rattle.rq_cluster.specs.CommandWords.{wrong_word};
 ghost use Rattle.rq_cluster.specs.LastLines.{stopped_word, LastLine};
 ghost use Rattle.rq_cluster.specs.Play.{Took, Wrote, IsStatus};
@@ -18,7 +20,10 @@ use crate::reading_lines::read_all;
 use crate::standing::shown_clusters_stand;
 use crate::words::{first_wrong, refuse};
 use rq_outside::{CrashDisk, DiskPair, Draws, Sink, Source, Word};
-use rq_script::laws::{each_moment_is_kept, the_one_log_grows, what_was_chosen_is_kept};
+use rq_script::laws::{
+    answers_are_noted, each_moment_is_kept, reads_see_what_was_applied, the_one_log_grows,
+    what_was_chosen_is_kept,
+};
 use rq_settle::each_text_is_prepared;
 use std::alloc::Global;
 
@@ -31,6 +36,7 @@ fn run_script<S: Source, D: CrashDisk, K: Sink>(
 ) -> u8
     requires { AreNew D.told D.means disks.old.items }
     ensures wrote { IsTrue S.told → IsTrue D.told → Took K.told (K.taken sink.old) (K.taken sink.new) (Wrote (S.left source.old) (S.left source.new) (Rose (S.faults source.old) (S.faults source.new)) (Holds D.told D.means disks.old.items disks.new.items) result) }
+    ensures drained { IsTrue S.told → result ≡ 0 → S.left source.new ≡ [] }
     ensures statuses { (result ≡ 0) ⊎ (result ≡ 3) ⊎ (result ≡ 4) ⊎ (result ≡ 5) ⊎ (result ≡ 6) }
     ensures source { result ≡ 4 → Rose (S.faults source.old) (S.faults source.new) }
     ensures sink { result ≡ 5 → Rose (K.faults sink.old) (K.faults sink.new) }
@@ -75,6 +81,7 @@ pub fn cluster_main<S: Source, K: Sink, D: CrashDisk, R: Draws>(
         (Wrote (S.left source.old) (S.left source.new) (Rose (S.faults source.old) (S.faults source.new)) (Holds D.told D.means disks.old.items disks.new.items) result) }
 
     // A fault is told only where it came, and else the script is read to its end or to the first line outside.
+    ensures drained { IsTrue S.told → result ≡ 0 → S.left source.new ≡ [] }
     ensures source { result ≡ 4 → Rose (S.faults source.old) (S.faults source.new) }
     ensures sink { result ≡ 5 → Rose (K.faults sink.old) (K.faults sink.new) }
     ensures complete { wrong_word words.now ≡ None → (Rose (S.faults source.old) (S.faults source.new) → ⊥) → (Rose (K.faults sink.old) (K.faults sink.new) → ⊥) →
@@ -88,6 +95,9 @@ pub fn cluster_main<S: Source, K: Sink, D: CrashDisk, R: Draws>(
     ensures kept { (lines : List Line) (text : List ℕ) (c : Cluster) (run : Runs lines text c) (s : Server) → c.server ≡ Some s → IsKept (history run).chosen s.stand }
     ensures grows { (lines : List Line) (text : List ℕ) (c : Cluster) (run : Runs lines text c) (l : Line) (more : List ℕ) (next : Cluster) (within : IsWithin l) (steps : Steps c l.text more next) →
         Grows (history run) (history (Runs.line l more next run within steps)) }
+    // The answers that a line writes are those that are noted of it, and a read sees all that its node had applied.
+    ensures noted { (c : Cluster) (bytes text : List ℕ) (next : Cluster) (steps : Steps c bytes text next) → Tells text (notes_of c (line_of bytes) steps.0.items steps.0.course) }
+    ensures reads { (c : Cluster) (bytes text : List ℕ) (next : Cluster) (steps : Steps c bytes text next) → ReadsSeeApplied c (notes_of c (line_of bytes) steps.0.items steps.0.course) }
 
     ensures undrawn { draws.new ≡ draws.old }
 {
@@ -95,6 +105,8 @@ pub fn cluster_main<S: Source, K: Sink, D: CrashDisk, R: Draws>(
     each_moment_is_kept();
     what_was_chosen_is_kept();
     the_one_log_grows();
+    answers_are_noted();
+    reads_see_what_was_applied();
     match first_wrong(words) {
         Some((place, word)) => refuse(alloc, sink, place, word),
         None => run_script(alloc, source, sink, disks),
