@@ -161,3 +161,11 @@ prepared_again again text s p = by p.answer p.means p.is
         let same = same_text q s form.0 in
         let read = again text q means (subst (λ (z : Text). length z ≤ most_bytes) same form.1) in
         record { answer = Ok q; means = subst (λ (z : Text). Means z (Ok q)) (sym same) read; is = is }
+
+-- what stands for a statement that runs is the canonical text of one that is read
+pub prepared_from : (text : List ℕ) (s : Statement) → IsPrepared text (Run s) → (q : Stmt) × Means text (Ok q) × (canonical s ≡ text_of q)
+prepared_from text s p = by p.answer p.means p.is
+  where
+    by : (answer : Result Stmt ReadError) → Means text answer → Run s ≡ item_of text answer → (q : Stmt) × Means text (Ok q) × (canonical s ≡ text_of q)
+    by (Err error) means is = absurd (cc)
+    by (Ok q) means is = (q, means, same_text q s (form_runs (built q) s is).0)

@@ -3,3 +3,5 @@ mod BuiltText
 mod GoodExpr
 mod GoodStmt
 mod Opened
+mod PrintedTexts
+mod Texts

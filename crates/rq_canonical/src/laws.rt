@@ -1,6 +1,7 @@
 //! What is proved of canonical text. Each law is the contract of a function that does nothing.
 
 ghost use Rattle.std.specs.Prelude.{◌≡◌, ◌≤◌, true, ℕ, List, length, Ok};
+ghost use Rattle.rq_values.specs.Text.{is_text};
 ghost use Rattle.rq_grammar.specs.declared.stmt.Stmt.{Stmt};
 ghost use Rattle.rq_grammar.specs.Depth.{the_limits, deepest, most_open};
 ghost use Rattle.rq_grammar.specs.Print.{tokens_of};
@@ -42,4 +43,14 @@ pub fn canonical_text_is_prepared_again()
     ensures { (text : List ℕ) (statement : _) → IsPrepared text (Run statement) → IsPrepared (canonical statement) (Run statement) }
 {
     printed_text_is_read();
+}
+
+/// Canonical text is UTF-8 without NUL.
+pub fn canonical_text_is_text()
+    // That of each proper statement that is written in texts and bytes.
+    ensures printed { (s : Stmt) → is_statement s ≡ true → statement_written s ≡ true → is_text (text_of s) ≡ true }
+    // So is that of each statement that runs.
+    ensures prepared { (text : List ℕ) (statement : _) → IsPrepared text (Run statement) → is_text (canonical statement) ≡ true }
+{
+    what_is_read_is_proper();
 }

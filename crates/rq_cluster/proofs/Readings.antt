@@ -8,7 +8,6 @@ use Rattle.rq_engine.specs.declared.item.Item.{Item}
 use Rattle.rq_engine.specs.declared.item.Item.TheVariants.{Run, Fail}
 use Rattle.rq_engine.specs.declared.statement.Statement.{Statement}
 use Rattle.rq_engine.specs.Canonical.{canonical}
-use Rattle.rq_command.specs.Stored.{text_of}
 use Rattle.rq_node.specs.Sound.{IsReadable}
 use Rattle.rq_json.specs.Body.{texts_of}
 use Rattle.rq_settle.specs.Prepared.{IsPrepared}
@@ -48,6 +47,10 @@ some_items readable (text ∷ texts) = let one = readable text in let rest = som
 abbrev pub Again : Type 0
 Again = (text : List ℕ) (statement : Statement) → IsPrepared text (Run statement) → IsPrepared (canonical statement) (Run statement)
 
-pub readable_item : Again → (text : List ℕ) (item : Item) → IsPrepared text item → is_text (text_of item) ≡ true → IsReadable item
-readable_item again text (Run statement) prepared is = (is, again text statement prepared)
-readable_item again text (Fail error) prepared is = (is, tt)
+-- and it is a text
+abbrev pub Told : Type 0
+Told = (text : List ℕ) (statement : Statement) → IsPrepared text (Run statement) → is_text (canonical statement) ≡ true
+
+pub readable_item : Again → Told → (text : List ℕ) (item : Item) → IsPrepared text item → ((error : List ℕ) → item ≡ Fail error → is_text error ≡ true) → IsReadable item
+readable_item again told text (Run statement) prepared errors = (told text statement prepared, again text statement prepared)
+readable_item again told text (Fail error) prepared errors = (errors error refl, tt)

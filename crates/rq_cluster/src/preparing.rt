@@ -1,14 +1,14 @@
 //! The statements of a body, prepared for the log.
-ghost use Rattle.std.specs.Prelude.{◌≡◌, ℕ, List, Some, None, All, IfOk, MatchOption, ⊤};
+ghost use Rattle.std.specs.Prelude.{◌≡◌, true, ℕ, List, Some, None, All, IfOk, MatchOption, ⊤};
 ghost use Rattle.rq_values.specs.Text.{is_text};
+ghost use Rattle.rq_engine.specs.declared.item.Item.TheVariants.{Fail};
 ghost use Rattle.rq_json.specs.Body.{texts_of};
 ghost use Rattle.rq_settle.specs.Prepared.{IsPrepared};
-ghost use Rattle.rq_command.specs.Stored.{text_of};
 ghost use Rattle.rq_node.specs.Sound.{IsReadable};
 ghost use Rattle.rq_script.specs.Preparing.{AreRead};
 
-use rq_canonical::canonical_text_is_prepared_again;
-use rq_engine::{Item, print};
+use rq_canonical::{canonical_text_is_prepared_again, canonical_text_is_text};
+use rq_engine::Item;
 use rq_json::statements_of;
 use rq_settle::prepare;
 use rq_values::{NoMemory, Seq, Text};
@@ -45,28 +45,17 @@ fn prepared(alloc: Global, text: &[u8]) -> Result<Item, NoMemory>
     ensures readable { IfOk result (λ item. IsReadable item) }
 {
     canonical_text_is_prepared_again();
+    canonical_text_is_text();
     let item = prepare(alloc, text)?;
-    if has_text(alloc, &item)? {
-        Ok(item)
-    } else {
-        Err(NoMemory)
-    }
+    know_error(&item);
+    Ok(item)
 }
 
-/// Whether what stands for the item in the log is a text, as it always is: names and texts are, and so is what stands around
-/// them.
-fn has_text(alloc: Global, item: &Item) -> Result<bool, NoMemory>
-    ensures { IfOk result (λ has. has ≡ is_text (text_of item.now)) }
+/// The error of an item is a text.
+fn know_error(item: &Item)
+    ensures { (error : _) → item.now ≡ Fail error → is_text error ≡ true }
 {
-    match item {
-        Item::Run(statement) => {
-            let mut text = Vec::new(alloc);
-            print(statement, &mut text)?;
-            Ok(Text::new(alloc, &text)?.is_some())
-        }
-        Item::Fail(error) => {
-            let _bytes = error.bytes();
-            Ok(true)
-        }
+    if let Item::Fail(error) = item {
+        let _bytes = error.bytes();
     }
 }
