@@ -1,5 +1,6 @@
 -- In a pair of empty disks no log stands.
-use Rattle.std.proofs.Common.{◌≡◌, [], ◌∷◌, true, None, refl, ap, ◌∙◌}
+use Rattle.std.proofs.Common.{◌≡◌, Bool, List, [], ◌∷◌, ◌++◌, true, None, refl, ap, ◌∙◌}
+use Rattle.std.specs.Prelude.{All}
 use Rattle.rq_outside.specs.declared.pair.DiskPair.{DiskPair}
 use Rattle.rq_outside.specs.declared.pair.FileNo.TheVariants.{One, Two}
 use Rattle.rq_outside.specs.declared.pair.Arm.TheVariants.{Off}
@@ -8,8 +9,8 @@ use Rattle.rq_outside.specs.declared.fakes.disk.MemDisk.{MemDisk}
 use Rattle.rq_outside.specs.Disk.{DiskMeaning, Only}
 use Rattle.rq_outside.specs.Pair.{arm_of, disk_at}
 use Rattle.rq_wal.specs.Replace.{in_header, generation_of}
-use Rattle.std.proofs.lemmas.List.Elements.{All-from_recursion}
-use Rattle.rq_cluster.specs.Standing.{IsNew, AreNew}
+use Rattle.std.proofs.lemmas.List.Elements.{All-push}
+use Rattle.rq_cluster.specs.Standing.{IsNew}
 use Rattle.rq_cluster.specs.EmptyPairs.{sure_means, mem_means}
 
 empty_is_closed : generation_of [] ≡ None
@@ -29,13 +30,5 @@ empty_is_new pair off one two = new_by sure_means pair off one two
 pub empty_mem_is_new : {F : Type 0} (pair : DiskPair MemDisk F) → arm_of pair ≡ Off → Only [] (mem_means (disk_at pair One)).images → Only [] (mem_means (disk_at pair Two)).images → IsNew true mem_means pair
 empty_mem_is_new pair off one two = new_by mem_means pair off one two
 
--- nine such pairs
-module _ {D F : Type 0} (means : D → DiskMeaning) where
-  pub nine : (a b c d e f g h i : DiskPair D F) → IsNew true means a → IsNew true means b → IsNew true means c → IsNew true means d
-      → IsNew true means e → IsNew true means f → IsNew true means g → IsNew true means h → IsNew true means i
-      → AreNew true means (a ∷ b ∷ c ∷ d ∷ e ∷ f ∷ g ∷ h ∷ i ∷ [])
-  nine a b c d e f g h i a' b' c' d' e' f' g' h' i' = record {
-    count = refl;
-    fresh = All-from_recursion (λ (pair : DiskPair D F). IsNew true means pair) (a ∷ b ∷ c ∷ d ∷ e ∷ f ∷ g ∷ h ∷ i ∷ [])
-        (a', (b', (c', (d', (e', (f', (g', (h', (i', tt)))))))));
-  }
+pub one_more_new : {D F : Type 0} (told : Bool) (means : D → DiskMeaning) (pairs : List (DiskPair D F)) (pair : DiskPair D F) → All (IsNew told means) pairs → IsNew told means pair → All (IsNew told means) (pairs ++ pair ∷ [])
+one_more_new told means pairs pair all one = All-push (IsNew told means) pairs pair all one

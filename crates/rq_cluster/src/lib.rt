@@ -9,6 +9,7 @@ mod giving;
 mod host;
 mod line_error;
 mod memory_pairs;
+mod nine_pairs;
 mod preparing;
 mod progress;
 mod reading_lines;

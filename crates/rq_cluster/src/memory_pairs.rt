@@ -1,9 +1,10 @@
 //! Pairs of disks for a script in memory.
 ghost use Rattle.std.specs.Prelude.{◌≡◌, true, [], IfOk};
 ghost use Rattle.rq_outside.specs.Disk.{Only};
-ghost use Rattle.rq_cluster.specs.Standing.{IsNew, AreNew};
+ghost use Rattle.rq_cluster.specs.Standing.{AreNew};
 ghost use Rattle.rq_cluster.specs.EmptyPairs.{sure_means};
 
+use crate::nine_pairs::{MakesPairs, nine_pairs};
 use rq_outside::{Disk, DiskPair, SureDisk};
 use rq_values::NoMemory;
 use std::alloc::Global;
@@ -20,31 +21,19 @@ pub(crate) fn empty_disk(alloc: Global) -> Result<SureDisk, NoMemory>
     }
 }
 
-/// A pair of empty disks in memory.
-#[tactic(auto, using(crate::proofs::Emptiness::empty_is_new))]
-fn empty_pair(alloc: Global) -> Result<DiskPair<SureDisk>, NoMemory>
-    ensures { IfOk result (λ pair. IsNew true sure_means pair) }
-{
-    Ok(DiskPair::new(empty_disk(alloc)?, empty_disk(alloc)?))
+/// Pairs of such disks.
+struct EmptyPairs;
+
+impl MakesPairs<SureDisk> for EmptyPairs {
+    #[tactic(auto, using(crate::proofs::Emptiness::empty_is_new))]
+    fn pair(&self, alloc: Global, _place: usize) -> Result<DiskPair<SureDisk>, NoMemory> {
+        Ok(DiskPair::new(empty_disk(alloc)?, empty_disk(alloc)?))
+    }
 }
 
 /// Nine pairs of empty disks in memory that never fail, one for each node that a script may name.
 pub fn empty_pairs(alloc: Global) -> Result<Vec<DiskPair<SureDisk>>, NoMemory>
     ensures { IfOk result (λ pairs. AreNew true sure_means pairs.items) }
 {
-    let pairs = [
-        empty_pair(alloc)?,
-        empty_pair(alloc)?,
-        empty_pair(alloc)?,
-        empty_pair(alloc)?,
-        empty_pair(alloc)?,
-        empty_pair(alloc)?,
-        empty_pair(alloc)?,
-        empty_pair(alloc)?,
-        empty_pair(alloc)?,
-    ];
-    match Vec::from_array(alloc, pairs) {
-        Ok(pairs) => Ok(pairs),
-        Err(_) => Err(NoMemory),
-    }
+    nine_pairs(alloc, &EmptyPairs)
 }

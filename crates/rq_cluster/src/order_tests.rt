@@ -2,11 +2,10 @@
 ghost use Rattle.std.specs.Prelude.{◌<◌, length, true, [], IfOk};
 ghost use Rattle.rq_outside.specs.Disk.{Only};
 ghost use Rattle.rq_outside.specs.Memory.{journal_means};
-ghost use Rattle.rq_cluster.specs.declared.order_tests.CountedDisk.{CountedDisk as Counted};
-ghost use Rattle.rq_cluster.specs.Standing.{IsNew, AreNew};
 
 use super::*;
 use crate::memory_pairs::empty_disk;
+use crate::nine_pairs::{MakesPairs, nine_pairs};
 use rq_outside::{
     CrashDisk, Disk, DiskPair, Failed, Sink, SinkError, SureDisk, SureDraws, SureSource, Word,
 };
@@ -122,36 +121,17 @@ fn counted<'a>(alloc: Global, syncs: &'a Cell<u64>) -> Result<CountedDisk<'a>, N
     Ok(CountedDisk { disk, syncs })
 }
 
-/// A pair of such disks.
-fn pair<'a>(alloc: Global, syncs: &'a Cell<u64>) -> Result<DiskPair<CountedDisk<'a>>, NoMemory>
-    ensures { IfOk result (λ pair. IsNew true (λ (disk : Counted). journal_means disk.disk.journal 0) pair) }
-{
-    let one = counted(alloc, syncs)?;
-    let two = counted(alloc, syncs)?;
-    Ok(DiskPair::new(one, two))
+/// Pairs of such disks.
+#[derive(Drop)]
+struct CountedPairs<'a> {
+    syncs: &'a Cell<u64>,
 }
 
-/// Nine such pairs.
-fn pairs<'a>(
-    alloc: Global,
-    syncs: &'a Cell<u64>,
-) -> Result<Vec<DiskPair<CountedDisk<'a>>>, NoMemory>
-    ensures { IfOk result (λ pairs. AreNew true (λ (disk : Counted). journal_means disk.disk.journal 0) pairs.items) }
-{
-    let pairs = [
-        pair(alloc, syncs)?,
-        pair(alloc, syncs)?,
-        pair(alloc, syncs)?,
-        pair(alloc, syncs)?,
-        pair(alloc, syncs)?,
-        pair(alloc, syncs)?,
-        pair(alloc, syncs)?,
-        pair(alloc, syncs)?,
-        pair(alloc, syncs)?,
-    ];
-    match Vec::from_array(alloc, pairs) {
-        Ok(pairs) => Ok(pairs),
-        Err(_) => Err(NoMemory),
+impl<'a> MakesPairs<CountedDisk<'a>> for CountedPairs<'a> {
+    fn pair(&self, alloc: Global, _place: usize) -> Result<DiskPair<CountedDisk<'a>>, NoMemory> {
+        let one = counted(alloc, self.syncs)?;
+        let two = counted(alloc, self.syncs)?;
+        Ok(DiskPair::new(one, two))
     }
 }
 
@@ -174,7 +154,9 @@ fn order_of_calls(rt: HostRuntime) -> Result<(), Fail> {
         pieces: Vec::new(alloc),
         syncs: &syncs,
     };
-    let mut disks = pairs(alloc, &syncs).ok().ok_or("memory")?;
+    let mut disks = nine_pairs(alloc, &CountedPairs { syncs: &syncs })
+        .ok()
+        .ok_or("memory")?;
     let mut draws = SureDraws::new(Vec::new(alloc));
     let status = cluster_main(
         alloc,

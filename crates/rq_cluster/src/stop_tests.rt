@@ -1,44 +1,34 @@
 //! Stops within a write, starts, and disks that fail.
-ghost use Rattle.std.specs.Prelude.{true, [], IfOk};
+ghost use Rattle.std.specs.Prelude.{[], IfOk};
 ghost use Rattle.rq_outside.specs.Disk.{Only};
 ghost use Rattle.rq_cluster.specs.EmptyPairs.{mem_means};
-ghost use Rattle.rq_cluster.specs.Standing.{IsNew, AreNew};
 
 use super::*;
+use crate::nine_pairs::{MakesPairs, nine_pairs};
 use rq_outside::{CrashDisk, DiskPair, MemDisk, SureDraws, SureSink, SureSource, Word};
 use rq_values::NoMemory;
 use std::alloc::Global;
 use std::test::Fail;
 
-/// The pairs of a script, of which the files of the first fail at these calls.
-fn pairs(alloc: Global, one: &[u64], two: &[u64]) -> Result<Vec<DiskPair<MemDisk>>, NoMemory>
-    ensures { IfOk result (λ pairs. AreNew true mem_means pairs.items) }
-{
-    let pairs = [
-        pair(alloc, one, two)?,
-        pair(alloc, &[], &[])?,
-        pair(alloc, &[], &[])?,
-        pair(alloc, &[], &[])?,
-        pair(alloc, &[], &[])?,
-        pair(alloc, &[], &[])?,
-        pair(alloc, &[], &[])?,
-        pair(alloc, &[], &[])?,
-        pair(alloc, &[], &[])?,
-    ];
-    match Vec::from_array(alloc, pairs) {
-        Ok(pairs) => Ok(pairs),
-        Err(_) => Err(NoMemory),
-    }
+/// Pairs of empty disks, of which those of the first fail at these calls.
+#[derive(Drop)]
+struct Failing<'a> {
+    one: &'a [u64],
+    two: &'a [u64],
 }
 
-/// A pair of empty disks that fail at these calls.
-#[tactic(auto, using(crate::proofs::Emptiness::empty_mem_is_new))]
-fn pair(alloc: Global, one: &[u64], two: &[u64]) -> Result<DiskPair<MemDisk>, NoMemory>
-    ensures { IfOk result (λ pair. IsNew true mem_means pair) }
-{
-    let one = disk(alloc, one)?;
-    let two = disk(alloc, two)?;
-    Ok(DiskPair::new(one, two))
+impl MakesPairs<MemDisk> for Failing<'_> {
+    #[tactic(auto, using(crate::proofs::Emptiness::empty_mem_is_new))]
+    fn pair(&self, alloc: Global, place: usize) -> Result<DiskPair<MemDisk>, NoMemory> {
+        let (one, two) = if place == 0 {
+            (self.one, self.two)
+        } else {
+            (&[][..], &[][..])
+        };
+        let one = disk(alloc, one)?;
+        let two = disk(alloc, two)?;
+        Ok(DiskPair::new(one, two))
+    }
 }
 
 /// An empty disk that fails at these calls, whatever a crash leaves.
@@ -67,7 +57,9 @@ fn gives(
     words.push(Word::new(alloc, b"cluster").ok().ok_or("memory")?)?;
     let mut source = SureSource::new(script.to_vec(alloc)?);
     let mut sink = SureSink::new(Vec::new(alloc));
-    let mut disks = pairs(alloc, one, two).ok().ok_or("memory")?;
+    let mut disks = nine_pairs(alloc, &Failing { one, two })
+        .ok()
+        .ok_or("memory")?;
     let mut draws = SureDraws::new(Vec::new(alloc));
     let found = cluster_main(
         alloc,

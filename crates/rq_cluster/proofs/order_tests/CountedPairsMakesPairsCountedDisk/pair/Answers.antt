@@ -3,7 +3,7 @@ use Rattle.rq_outside.specs.Disk.{DiskMeaning, Only}
 use Rattle.rq_outside.specs.Memory.{journal_means}
 use Rattle.rq_cluster.specs.declared.order_tests.CountedDisk.{CountedDisk}
 use Rattle.rq_cluster.proofs.Emptiness.{new_by}
-use Rattle.rq_cluster.proofs.order_tests.pair.Goals as goal
+use Rattle.rq_cluster.proofs.order_tests.CountedPairsMakesPairsCountedDisk.pair.Goals as goal
 
 abbrev means : CountedDisk → DiskMeaning
 means disk = journal_means disk.disk.journal 0
