@@ -67,6 +67,10 @@ impl Disk for CountedDisk<'_> {
 }
 
 impl CrashDisk for CountedDisk<'_> {
+    ghost use Rattle.rq_outside.specs.MemDisk.{sure_picked};
+
+    ghost picked = { λ pick disk. sure_picked pick disk.disk };
+
     fn crash(&mut self, pick: u8) {
         self.disk.crash(pick);
     }
