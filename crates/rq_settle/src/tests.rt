@@ -1,314 +1,201 @@
-//! Statements and their canonical text.
+//! Texts, and the canonical text of their statements.
 use super::*;
-use rq_engine::Item;
-use rq_grammar::{
-    BinaryOp, ColumnDef, ColumnKind, Expr, InsertRows, OrderTerm, ResultItem, SelectStmt, Stmt,
-};
-use rq_values::{Bytes, Text, Value};
-use sqlite_items::{Boxed, Items};
+use rq_sql::read;
 use std::alloc::Global;
 use std::test::Fail;
 
-fn text(alloc: Global, bytes: &[u8]) -> Result<Text, Fail> {
-    Ok(Text::new(alloc, bytes)?.ok_or("no text")?)
-}
+/// A text, and the canonical text of the statement that it spells.
+const STATEMENTS: [(&str, &str); 56] = [
+    (
+        "CREATE TABLE t (a INTEGER PRIMARY KEY NOT NULL UNIQUE, \"b c\" text, d BLOB)",
+        "CREATE TABLE \"t\" (\"a\" INTEGER PRIMARY KEY NOT NULL UNIQUE, \"b c\" TEXT, \"d\" BLOB)",
+    ),
+    (
+        "create table if not exists t (a integer unique not null primary key, b blob)",
+        "CREATE TABLE IF NOT EXISTS \"t\" (\"a\" INTEGER PRIMARY KEY NOT NULL UNIQUE, \"b\" BLOB)",
+    ),
+    (
+        "create table if not exists t (a TEXT)",
+        "CREATE TABLE IF NOT EXISTS \"t\" (\"a\" TEXT)",
+    ),
+    (
+        "CREATE TABLE IF (IF INTEGER)",
+        "CREATE TABLE \"IF\" (\"IF\" INTEGER)",
+    ),
+    ("DROP TABLE t", "DROP TABLE \"t\""),
+    ("DROP TABLE IF EXISTS t;;", "DROP TABLE IF EXISTS \"t\""),
+    ("DROP TABLE IF", "DROP TABLE \"IF\""),
+    (
+        "drop table if exists \"a\"\"b\"",
+        "DROP TABLE IF EXISTS \"a\"\"b\"",
+    ),
+    (
+        "INSERT INTO t VALUES (1, 'it''s'), (NULL, X'00ff')",
+        "INSERT INTO \"t\" VALUES (1, 'it''s'), (NULL, X'00FF')",
+    ),
+    (
+        "insert into t(a,b)values(1,'it''s'),(null)",
+        "INSERT INTO \"t\" (\"a\", \"b\") VALUES (1, 'it''s'), (NULL)",
+    ),
+    (
+        "INSERT INTO t(a, \"b\"\"c\") SELECT * FROM u",
+        "INSERT INTO \"t\" (\"a\", \"b\"\"c\") SELECT * FROM \"u\"",
+    ),
+    (
+        "insert into t select count ( * )",
+        "INSERT INTO \"t\" SELECT COUNT(*)",
+    ),
+    (
+        "UPDATE t SET a = 1, b = a + 1 WHERE a",
+        "UPDATE \"t\" SET \"a\" = 1, \"b\" = (\"a\" + 1) WHERE \"a\"",
+    ),
+    (
+        "update t set a=current_time, b=random() where current_date",
+        "UPDATE \"t\" SET \"a\" = CURRENT_TIME, \"b\" = RANDOM() WHERE CURRENT_DATE",
+    ),
+    ("DELETE FROM t", "DELETE FROM \"t\""),
+    (
+        "DELETE FROM t WHERE NOT a",
+        "DELETE FROM \"t\" WHERE (NOT \"a\")",
+    ),
+    (
+        "select a+1, b from T where not a==2 limit 3",
+        "SELECT (\"a\" + 1), \"b\" FROM \"T\" WHERE (NOT (\"a\" = 2)) LIMIT 3",
+    ),
+    (
+        "select *, t.a as \"b\"\"c\" from t order by x'ff0a', :p desc limit ? offset 1",
+        "SELECT *, \"t\".\"a\" AS \"b\"\"c\" FROM \"t\" ORDER BY X'FF0A', :p DESC LIMIT ? OFFSET 1",
+    ),
+    (
+        "SELECT a AS b, * FROM t WHERE a ORDER BY a, b DESC, c ASC LIMIT 1 OFFSET 2",
+        "SELECT \"a\" AS \"b\", * FROM \"t\" WHERE \"a\" ORDER BY \"a\", \"b\" DESC, \"c\" LIMIT 1 OFFSET 2",
+    ),
+    (
+        "SELECT a FROM t ORDER BY ASC ASC LIMIT offset OFFSET offset",
+        "SELECT \"a\" FROM \"t\" ORDER BY \"ASC\" LIMIT \"offset\" OFFSET \"offset\"",
+    ),
+    ("SELECT LIKE LIKE LIKE", "SELECT (\"LIKE\" LIKE \"LIKE\")"),
+    ("SELECT a FROM index", "SELECT \"a\" FROM \"index\""),
+    (
+        "select a||1%1-1<=1 is not 1 not like 1 and 1 or 1",
+        "SELECT ((((((((\"a\" || 1) % 1) - 1) <= 1) IS NOT 1) NOT LIKE 1) AND 1) OR 1)",
+    ),
+    ("SELECT 1 - 2 - 3", "SELECT ((1 - 2) - 3)"),
+    ("SELECT 1 + 2 * 3", "SELECT (1 + (2 * 3))"),
+    ("SELECT a * b || c", "SELECT (\"a\" * (\"b\" || \"c\"))"),
+    ("SELECT a || b % c", "SELECT ((\"a\" || \"b\") % \"c\")"),
+    ("SELECT a - b < c", "SELECT ((\"a\" - \"b\") < \"c\")"),
+    (
+        "SELECT a / b > c >= d",
+        "SELECT (((\"a\" / \"b\") > \"c\") >= \"d\")",
+    ),
+    ("SELECT a == b < c", "SELECT (\"a\" = (\"b\" < \"c\"))"),
+    ("SELECT a = b <> c", "SELECT ((\"a\" = \"b\") <> \"c\")"),
+    (
+        "SELECT a IS NOT b IS c",
+        "SELECT ((\"a\" IS NOT \"b\") IS \"c\")",
+    ),
+    (
+        "SELECT a NOT LIKE b != c",
+        "SELECT ((\"a\" NOT LIKE \"b\") <> \"c\")",
+    ),
+    ("SELECT NOT a = b", "SELECT (NOT (\"a\" = \"b\"))"),
+    ("SELECT NOT a AND b", "SELECT ((NOT \"a\") AND \"b\")"),
+    ("SELECT a OR b AND c", "SELECT (\"a\" OR (\"b\" AND \"c\"))"),
+    (
+        "SELECT (a OR b) AND c",
+        "SELECT ((\"a\" OR \"b\") AND \"c\")",
+    ),
+    (
+        "select min(a, current_timestamp) in (1, -2)",
+        "SELECT (MIN(\"a\", CURRENT_TIMESTAMP) IN (1, -2))",
+    ),
+    (
+        "select min(a, current_timestamp) not in (1, -2)",
+        "SELECT (MIN(\"a\", CURRENT_TIMESTAMP) NOT IN (1, -2))",
+    ),
+    ("SELECT a NOT IN ()", "SELECT (\"a\" NOT IN ())"),
+    (
+        "SELECT a IN (1, 2) = b",
+        "SELECT ((\"a\" IN (1, 2)) = \"b\")",
+    ),
+    (
+        "SELECT a BETWEEN 1 AND 2 + 3",
+        "SELECT (\"a\" BETWEEN 1 AND (2 + 3))",
+    ),
+    (
+        "select a not between 1 and -b",
+        "SELECT (\"a\" NOT BETWEEN 1 AND -(\"b\"))",
+    ),
+    (
+        "SELECT a NOT BETWEEN b AND c AND d",
+        "SELECT ((\"a\" NOT BETWEEN \"b\" AND \"c\") AND \"d\")",
+    ),
+    ("SELECT - -5", "SELECT -(-5)"),
+    (
+        "SELECT -5, - 5, - - 5, - + 5, -(5), + -5, -a + b",
+        "SELECT -5, -5, -(-5), -(5), -(5), -5, (-(\"a\") + \"b\")",
+    ),
+    (
+        "SELECT - /**/ 9223372036854775808, 9223372036854775807, 007",
+        "SELECT -9223372036854775808, 9223372036854775807, 7",
+    ),
+    (
+        "SELECT count(*), Count(a), f(), t.a, \"t\".\"a\"",
+        "SELECT COUNT(*), COUNT(\"a\"), F(), \"t\".\"a\", \"t\".\"a\"",
+    ),
+    ("SELECT ?, :a, @b, $c", "SELECT ?, :a, :b, :c"),
+    (
+        "SELECT CURRENT_DATE, current_time AS CURRENT_TIMESTAMP",
+        "SELECT CURRENT_DATE, CURRENT_TIME AS \"CURRENT_TIMESTAMP\"",
+    ),
+    ("SELECT 1 /* a", "SELECT 1"),
+    ("SELECT 1 -- a", "SELECT 1"),
+    ("SELECT --x\n1", "SELECT 1"),
+    ("SELECT\"\"", "SELECT \"\""),
+    ("SELECT 1;;", "SELECT 1"),
+    ("SELECT''", "SELECT ''"),
+];
 
-fn int(number: i64) -> Expr {
-    Expr::Literal(Value::Int(number))
-}
-
-fn name(alloc: Global, bytes: &[u8]) -> Result<Expr, Fail> {
-    Ok(Expr::Name(text(alloc, bytes)?))
-}
-
-fn minus(alloc: Global, operand: Expr) -> Result<Expr, Fail> {
-    Ok(Expr::Minus(Boxed::new(alloc, operand)?))
-}
-
-fn not(alloc: Global, operand: Expr) -> Result<Expr, Fail> {
-    Ok(Expr::Not(Boxed::new(alloc, operand)?))
-}
-
-fn binary(alloc: Global, op: BinaryOp, left: Expr, right: Expr) -> Result<Expr, Fail> {
-    Ok(Expr::Binary {
-        op,
-        left: Boxed::new(alloc, left)?,
-        right: Boxed::new(alloc, right)?,
-    })
-}
-
-fn two<T: Drop>(alloc: Global, first: T, second: T) -> Result<Items<T>, Fail> {
-    let mut items = one(alloc, first)?;
-    items.push(second)?;
-    Ok(items)
-}
-
-fn one<T: Drop>(alloc: Global, item: T) -> Result<Items<T>, Fail> {
-    let mut items = Items::new(alloc);
-    items.push(item)?;
-    Ok(items)
-}
-
-fn call(alloc: Global, callee: &[u8], args: Items<Expr>) -> Result<Expr, Fail> {
-    Ok(Expr::Call {
-        name: text(alloc, callee)?,
-        args,
-    })
-}
-
-fn plain(expr: Expr) -> ResultItem {
-    ResultItem::Value { expr, alias: None }
-}
-
-fn select(alloc: Global, results: Items<ResultItem>) -> SelectStmt {
-    SelectStmt {
-        results,
-        table: None,
-        filter: None,
-        order: Items::new(alloc),
-        limit: None,
-        offset: None,
-    }
-}
-
-fn selected(alloc: Global, expr: Expr) -> Result<Stmt, Fail> {
-    Ok(Stmt::Select(select(alloc, one(alloc, plain(expr))?)))
-}
-
-/// The canonical text of each, on a line of its own.
-fn printed(alloc: Global, statements: &[Stmt]) -> Result<String, Fail> {
+fn printed(alloc: Global, text: &str) -> Result<String, Fail> {
+    let stmt = read(alloc, text.as_bytes())?;
     let mut bytes = Vec::new(alloc);
-    for stmt in statements {
-        print(stmt, &mut bytes)?;
-        bytes.push(b'\n')?;
-    }
+    print(&stmt, &mut bytes)?;
     Ok(String::from_utf8_lossy(alloc, &bytes)?)
 }
 
-/// `a+1, b`
-fn sums(alloc: Global) -> Result<Items<ResultItem>, Fail> {
-    let sum = binary(alloc, BinaryOp::Add, name(alloc, b"a")?, int(1))?;
-    Ok(two(alloc, plain(sum), plain(name(alloc, b"b")?))?)
-}
-
-/// `not a==2`
-fn other(alloc: Global) -> Result<Expr, Fail> {
-    let same = binary(alloc, BinaryOp::Equal, name(alloc, b"a")?, int(2))?;
-    not(alloc, same)
-}
-
-/// `select a+1, b from T where not a==2 limit 3`
-fn limited(alloc: Global) -> Result<Stmt, Fail> {
-    let mut query = select(alloc, sums(alloc)?);
-    query.table = Some(text(alloc, b"T")?);
-    query.filter = Some(other(alloc)?);
-    query.limit = Some(int(3));
-    Ok(Stmt::Select(query))
-}
-
-/// `*, t.a as "b""c"`
-fn named(alloc: Global) -> Result<Items<ResultItem>, Fail> {
-    let expr = Expr::Qualified {
-        table: text(alloc, b"t")?,
-        column: text(alloc, b"a")?,
-    };
-    let alias = Some(text(alloc, b"b\"c")?);
-    Ok(two(alloc, ResultItem::All, ResultItem::Value { expr, alias })?)
-}
-
-/// `x'ff0a', :p desc`
-fn terms(alloc: Global) -> Result<Items<OrderTerm>, Fail> {
-    let rising = OrderTerm {
-        expr: Expr::Literal(Value::Blob(Bytes::new(alloc, b"\xff\x0a")?)),
-        descending: false,
-    };
-    let falling = OrderTerm {
-        expr: Expr::Param(Some(text(alloc, b"p")?)),
-        descending: true,
-    };
-    two(alloc, rising, falling)
-}
-
-/// A select with all that may stand behind the table, but for a filter.
-fn ordered(alloc: Global) -> Result<Stmt, Fail> {
-    let mut query = select(alloc, named(alloc)?);
-    query.table = Some(text(alloc, b"t")?);
-    query.order = terms(alloc)?;
-    query.limit = Some(Expr::Param(None));
-    query.offset = Some(int(1));
-    Ok(Stmt::Select(query))
-}
-
-fn create(alloc: Global) -> Result<Stmt, Fail> {
-    let first = ColumnDef {
-        name: text(alloc, b"a")?,
-        kind: ColumnKind::Integer,
-        primary: true,
-        not_null: true,
-        unique: true,
-    };
-    let second = ColumnDef {
-        name: text(alloc, b"b")?,
-        kind: ColumnKind::Blob,
-        primary: false,
-        not_null: false,
-        unique: false,
-    };
-    Ok(Stmt::Create {
-        if_not_exists: true,
-        table: text(alloc, b"t")?,
-        columns: two(alloc, first, second)?,
-    })
-}
-
-fn insert_rows(alloc: Global) -> Result<Stmt, Fail> {
-    let it = Expr::Literal(Value::Text(text(alloc, b"it's")?));
-    let rows = two(
-        alloc,
-        two(alloc, int(1), it)?,
-        one(alloc, Expr::Literal(Value::Null))?,
-    )?;
-    Ok(Stmt::Insert {
-        table: text(alloc, b"t")?,
-        columns: Some(two(alloc, text(alloc, b"a")?, text(alloc, b"b")?)?),
-        rows: InsertRows::Values(rows),
-    })
-}
-
-fn insert_select(alloc: Global) -> Result<Stmt, Fail> {
-    Ok(Stmt::Insert {
-        table: text(alloc, b"t")?,
-        columns: None,
-        rows: InsertRows::Select(select(alloc, one(alloc, plain(Expr::CountAll))?)),
-    })
-}
-
-fn update(alloc: Global) -> Result<Stmt, Fail> {
-    let sets = two(
-        alloc,
-        (text(alloc, b"a")?, Expr::CurrentTime),
-        (
-            text(alloc, b"b")?,
-            call(alloc, b"RANDOM", Items::new(alloc))?,
-        ),
-    )?;
-    Ok(Stmt::Update {
-        table: text(alloc, b"t")?,
-        sets,
-        filter: Some(Expr::CurrentDate),
-    })
-}
-
-fn among(alloc: Global, negated: bool) -> Result<Expr, Fail> {
-    let args = two(alloc, name(alloc, b"a")?, Expr::CurrentTimestamp)?;
-    Ok(Expr::InList {
-        negated,
-        left: Boxed::new(alloc, call(alloc, b"MIN", args)?)?,
-        list: two(alloc, int(1), int(-2))?,
-    })
-}
-
-fn between(alloc: Global, negated: bool) -> Result<Expr, Fail> {
-    Ok(Expr::Between {
-        negated,
-        left: Boxed::new(alloc, name(alloc, b"a")?)?,
-        low: Boxed::new(alloc, int(1))?,
-        high: Boxed::new(alloc, minus(alloc, name(alloc, b"b")?)?)?,
-    })
-}
-
-/// One operator of each level, the loosest outermost.
-fn nested(alloc: Global) -> Result<Expr, Fail> {
-    let mut expr = name(alloc, b"a")?;
-    for op in [
-        BinaryOp::Concat,
-        BinaryOp::Rem,
-        BinaryOp::Sub,
-        BinaryOp::LessEqual,
-        BinaryOp::IsNot,
-        BinaryOp::NotLike,
-        BinaryOp::And,
-        BinaryOp::Or,
-    ] {
-        expr = binary(alloc, op, expr, int(1))?;
-    }
-    Ok(expr)
-}
-
-fn writes(alloc: Global) -> Result<Vec<Stmt>, Fail> {
-    let mut list = Vec::new(alloc);
-    list.push(create(alloc)?)?;
-    list.push(Stmt::Drop {
-        if_exists: true,
-        table: text(alloc, b"a\"b")?,
-    })?;
-    list.push(insert_rows(alloc)?)?;
-    list.push(insert_select(alloc)?)?;
-    list.push(update(alloc)?)?;
-    list.push(Stmt::Delete {
-        table: text(alloc, b"t")?,
-        filter: None,
-    })?;
-    Ok(list)
-}
-
-fn queries(alloc: Global) -> Result<Vec<Stmt>, Fail> {
-    let mut list = Vec::new(alloc);
-    list.push(limited(alloc)?)?;
-    list.push(selected(alloc, minus(alloc, int(-5))?)?)?;
-    list.push(ordered(alloc)?)?;
-    list.push(selected(alloc, among(alloc, false)?)?)?;
-    list.push(selected(alloc, among(alloc, true)?)?)?;
-    list.push(selected(alloc, between(alloc, true)?)?)?;
-    list.push(selected(alloc, nested(alloc)?)?)?;
-    Ok(list)
-}
-
-const WRITES: &str =
-    "CREATE TABLE IF NOT EXISTS \"t\" (\"a\" INTEGER PRIMARY KEY NOT NULL UNIQUE, \"b\" BLOB)
-DROP TABLE IF EXISTS \"a\"\"b\"
-INSERT INTO \"t\" (\"a\", \"b\") VALUES (1, 'it''s'), (NULL)
-INSERT INTO \"t\" SELECT COUNT(*)
-UPDATE \"t\" SET \"a\" = CURRENT_TIME, \"b\" = RANDOM() WHERE CURRENT_DATE
-DELETE FROM \"t\"
-";
-
-const QUERIES: &str = "SELECT (\"a\" + 1), \"b\" FROM \"T\" WHERE (NOT (\"a\" = 2)) LIMIT 3
-SELECT -(-5)
-SELECT *, \"t\".\"a\" AS \"b\"\"c\" FROM \"t\" ORDER BY X'FF0A', :p DESC LIMIT ? OFFSET 1
-SELECT (MIN(\"a\", CURRENT_TIMESTAMP) IN (1, -2))
-SELECT (MIN(\"a\", CURRENT_TIMESTAMP) NOT IN (1, -2))
-SELECT (\"a\" NOT BETWEEN 1 AND -(\"b\"))
-SELECT ((((((((\"a\" || 1) % 1) - 1) <= 1) IS NOT 1) NOT LIKE 1) AND 1) OR 1)
-";
-
 #[test]
 fn statements_and_their_canonical_text(rt: HostRuntime) -> Result<(), Fail> {
-    let alloc = rt.alloc();
-    assert_eq!(rt; printed(alloc, &writes(alloc)?)?.as_str(), WRITES);
-    assert_eq!(rt; printed(alloc, &queries(alloc)?)?.as_str(), QUERIES);
+    for (text, canonical) in &STATEMENTS {
+        assert_eq!(rt; printed(rt.alloc(), text)?.as_str(), *canonical);
+    }
     Ok(())
 }
 
-/// The error of a select from a table whose name has so many letters, nothing where it runs.
-fn error_of_name(alloc: Global, letters: usize) -> Result<String, Fail> {
-    let mut source = Vec::from_slice(alloc, b"SELECT * FROM ")?;
-    for _ in 0..letters {
-        source.push(b'a')?;
-    }
-    match prepare(alloc, &source)? {
-        Item::Run(_) => Ok(String::new(alloc)),
-        Item::Fail(error) => Ok(String::from_utf8_lossy(alloc, error.bytes())?),
-    }
+/// How often the first of three pieces stands before the second, and the third behind it; the pieces of a text, and those of its canonical text.
+const NESTED: [(usize, [&str; 3], [&str; 3]); 4] = [
+    (99, ["", "1", "+1"], ["(", "1", " + 1)"]),
+    (99, ["- ", "a", ""], ["-(", "\"a\"", ")"]),
+    (99, ["- ", "- 5", ""], ["-(", "-5", ")"]),
+    (1000, ["+ ", "a", ""], ["", "\"a\"", ""]),
+];
+
+fn nested(alloc: Global, count: usize, pieces: &[&str; 3]) -> Result<String, Fail> {
+    let [before, middle, behind] = pieces;
+    let mut text = String::from_str(alloc, "SELECT ")?;
+    text.push_str(&before.repeat(alloc, count)?)?;
+    text.push_str(middle)?;
+    text.push_str(&behind.repeat(alloc, count)?)?;
+    Ok(text)
 }
 
 #[test]
-fn canonical_text_at_its_limit(rt: HostRuntime) -> Result<(), Fail> {
+fn deep_statements_and_their_canonical_text(rt: HostRuntime) -> Result<(), Fail> {
     let alloc = rt.alloc();
-    assert_eq!(rt; error_of_name(alloc, 4_194_288)?.as_str(), "");
-    assert_eq!(rt;
-        error_of_name(alloc, 4_194_289)?.as_str(),
-        "statement too large: 4194305"
-    );
+    for (count, text, canonical) in &NESTED {
+        let text = nested(alloc, *count, text)?;
+        let canonical = nested(alloc, *count, canonical)?;
+        assert_eq!(rt; printed(alloc, &text)?.as_str(), canonical.as_str());
+    }
     Ok(())
 }
