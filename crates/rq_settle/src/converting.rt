@@ -1,5 +1,5 @@
 //! Which statements run today: docs/SQL.md, "Statements that run today".
-ghost use Rattle.std.specs.Prelude.{◌≡◌, ◌∷◌, [], IfOk};
+ghost use Rattle.std.specs.Prelude.{◌≡◌, IfOk};
 ghost use Rattle.rq_settle.specs.Built as spec;
 
 use rq_engine::{Column, ColumnKind, Statement};

@@ -1,5 +1,5 @@
 //! A statement's text, made ready for the log.
-ghost use Rattle.std.specs.Prelude.{◌≡◌, ◌-◌, ℕ, List, length, take, drop, IfOk, OnOk};
+ghost use Rattle.std.specs.Prelude.{◌≡◌, ◌-◌, ℕ, List, length, IfOk, OnOk};
 ghost use Rattle.rq_engine.specs.Canonical.{canonical};
 ghost use Rattle.rq_sql.specs.declared.error.ReadError.TheVariants as errors;
 ghost use Rattle.rq_settle.specs.Built.{built as built_form};

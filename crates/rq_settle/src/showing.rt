@@ -6,7 +6,6 @@ ghost use Rattle.rq_values.specs.Text.{is_text};
 ghost use Rattle.rq_settle.specs.Shown.{char_len, shown};
 
 use rq_values::NoMemory;
-use std::alloc::Global;
 
 /// Whether the bytes are UTF-8 without NUL.
 #[tactic(auto, using(crate::proofs::Characters::is_text_both, crate::proofs::Characters::is_text_not))]
