@@ -13,21 +13,17 @@ fn kind_of(word: Word) -> &'static str {
     }
 }
 
-fn add(kind: &str, text: &[u8], into: &mut String) -> Result<(), Fail> {
-    let alloc = *into.allocator();
-    into.push_str(kind)?;
-    into.push_str(" ")?;
+fn named(alloc: Global, kind: &str, text: &[u8]) -> Result<String, Fail> {
     let shown = String::from_utf8_lossy(alloc, text)?;
-    into.push_str(&shown)?;
-    Ok(())
+    Ok(format!(in alloc; "{kind} {shown}")?)
 }
 
-fn add_hex(bytes: &[u8], into: &mut String) -> Result<(), Fail> {
-    into.push_str("blob ")?;
+fn hex(alloc: Global, bytes: &[u8]) -> Result<String, Fail> {
+    let mut shown = "blob ".to_string(alloc)?;
     for byte in bytes {
-        write!(into, "{byte:02x}")?;
+        shown.push_str(&format!(in alloc; "{byte:02x}")?)?;
     }
-    Ok(())
+    Ok(shown)
 }
 
 fn mark_of(token: &Token) -> &'static str {
@@ -56,16 +52,16 @@ fn mark_of(token: &Token) -> &'static str {
     }
 }
 
-fn add_token(token: &Token, into: &mut String) -> Result<(), Fail> {
+fn token_text(alloc: Global, token: &Token) -> Result<String, Fail> {
     match token {
-        Token::Word(name, word) => add(kind_of(*word), name.bytes(), into),
-        Token::Quoted(name) => add("quoted", name.bytes(), into),
-        Token::String(text) => add("text", text.bytes(), into),
-        Token::Blob(bytes) => add_hex(bytes.bytes(), into),
-        Token::Numeral(number) => Ok(write!(into, "number {number}")?),
-        Token::OtherNumeral(run) => add("numeral", run.bytes(), into),
-        Token::Parameter(Some(name)) => add("parameter", name.bytes(), into),
-        mark => Ok(into.push_str(mark_of(mark))?),
+        Token::Word(name, word) => named(alloc, kind_of(*word), name.bytes()),
+        Token::Quoted(name) => named(alloc, "quoted", name.bytes()),
+        Token::String(text) => named(alloc, "text", text.bytes()),
+        Token::Blob(bytes) => hex(alloc, bytes.bytes()),
+        Token::Numeral(number) => Ok(format!(in alloc; "number {number}")?),
+        Token::OtherNumeral(run) => named(alloc, "numeral", run.bytes()),
+        Token::Parameter(Some(name)) => named(alloc, "parameter", name.bytes()),
+        mark => Ok(mark_of(mark).to_string(alloc)?),
     }
 }
 
@@ -74,11 +70,9 @@ fn tokens(alloc: Global, text: &[u8]) -> Result<String, Fail> {
     let mut lexer = Lexer::new(text);
     let mut shown = String::new(alloc);
     while let Some(Placed { token, start, end }) = lexer.next_token(alloc)? {
-        if !shown.is_empty() {
-            shown.push_str(" & ")?;
-        }
-        write!(shown, "{start}-{end} ")?;
-        add_token(&token, &mut shown)?;
+        let between = if shown.is_empty() { "" } else { " & " };
+        let token = token_text(alloc, &token)?;
+        shown.push_str(&format!(in alloc; "{between}{start}-{end} {token}")?)?;
     }
     Ok(shown)
 }
