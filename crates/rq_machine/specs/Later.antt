@@ -35,3 +35,20 @@ is_last (p.From q) = true
 is_last (p.Order q) = true
 is_last (p.Ended r) = true
 is_last _ = false
+
+-- where a name may stand
+abbrev pub takes_name : Place → Bool
+takes_name p.CreateTable = true
+takes_name p.CreateIfNotExists = true
+takes_name (p.ColumnStart x) = true
+takes_name p.DropTable = true
+takes_name p.DropIfExists = true
+takes_name p.Into = true
+takes_name (p.NameStart n ns) = true
+takes_name p.Update = true
+takes_name (p.SetStart n is) = true
+takes_name p.DeleteFrom = true
+takes_name (p.Result q) = true
+takes_name (p.Alias q a) = true
+takes_name (p.From q) = true
+takes_name _ = false
