@@ -54,36 +54,18 @@ fn with_set(mut sets: MeasuredSets, name: Text, expr: Measured) -> Result<Measur
     Ok(sets)
 }
 
-/// Lets go of a row behind which no such token may stand.
-fn no_row(
-    _target: Target,
-    _rows: MeasuredRows,
-    _row: MeasuredList,
-    _expr: Measured,
-) -> Option<State>
-    ensures { result ≡ None }
-{
-    None
-}
-
-/// Lets go of a row that isn't closed.
-fn no_place(
-    _target: Target,
-    _rows: MeasuredRows,
-    _row: MeasuredList,
-    _expr: Measured,
-) -> Option<Place>
-    ensures { result ≡ None }
-{
-    None
-}
-
 /// Where the machine stands once the clause's expression has ended. A row goes on or is closed.
 fn land(clause: Clause, expr: Measured) -> Result<Option<Place>, NoMemory>
     ensures { IfOk result (λ place. place ≡ machine.land clause expr) }
 {
     Ok(match clause {
-        Clause::Row { target, rows, row } => no_place(target, rows, row, expr),
+        Clause::Row { target, rows, row } => {
+            drop(target);
+            drop(rows);
+            drop(row);
+            drop(expr);
+            None
+        }
         Clause::Results(query) => {
             Some(Place::Tail(Stage::Results, query.with_result(expr, None)?))
         }
@@ -108,7 +90,10 @@ fn landed(alloc: Global, clause: Clause, expr: Measured, token: Token) -> Step
     ensures { IfOk result (λ next. next ≡ machine.landed (machine.land clause expr) token) }
 {
     match land(clause, expr)? {
-        None => Ok(None),
+        None => {
+            drop(token);
+            Ok(None)
+        }
         Some(place) => place_step(alloc, place, token),
     }
 }
@@ -143,7 +128,13 @@ fn row_on(
             let row = with_expr(row, expr)?;
             Ok(Some(State::Flat(Place::Rows(target, with_row(rows, row)?))))
         }
-        _ => Ok(no_row(target, rows, row, expr)),
+        _ => {
+            drop(target);
+            drop(rows);
+            drop(row);
+            drop(expr);
+            Ok(None)
+        }
     }
 }
 
@@ -152,7 +143,10 @@ fn results_on(alloc: Global, query: MeasuredQuery, expr: Measured, token: Token)
     ensures { IfOk result (λ next. next ≡ machine.results_on query expr token) }
 {
     match &token {
-        Token::Word(_, Word::As) => Ok(Some(State::Flat(Place::Alias(query, expr)))),
+        Token::Word(_, Word::As) => {
+            drop(token);
+            Ok(Some(State::Flat(Place::Alias(query, expr))))
+        }
         _ => landed(alloc, Clause::Results(query), expr, token),
     }
 }
@@ -162,14 +156,16 @@ fn order_on(alloc: Global, query: MeasuredQuery, expr: Measured, token: Token) -
     ensures { IfOk result (λ next. next ≡ machine.order_on query expr token) }
 {
     match &token {
-        Token::Word(_, Word::Asc) => Ok(Some(State::Flat(Place::Tail(
-            Stage::Ordered,
-            query.with_term(expr, false)?,
-        )))),
-        Token::Word(_, Word::Desc) => Ok(Some(State::Flat(Place::Tail(
-            Stage::Ordered,
-            query.with_term(expr, true)?,
-        )))),
+        Token::Word(_, Word::Asc) => {
+            drop(token);
+            let query = query.with_term(expr, false)?;
+            Ok(Some(State::Flat(Place::Tail(Stage::Ordered, query))))
+        }
+        Token::Word(_, Word::Desc) => {
+            drop(token);
+            let query = query.with_term(expr, true)?;
+            Ok(Some(State::Flat(Place::Tail(Stage::Ordered, query))))
+        }
         _ => landed(alloc, Clause::Order(query), expr, token),
     }
 }
@@ -179,7 +175,10 @@ fn limit_on(alloc: Global, query: MeasuredQuery, expr: Measured, token: Token) -
     ensures { IfOk result (λ next. next ≡ machine.limit_on query expr token) }
 {
     match &token {
-        Token::Word(_, Word::Offset) => inside(alloc, Clause::Offset(query.with_limit(expr))),
+        Token::Word(_, Word::Offset) => {
+            drop(token);
+            inside(alloc, Clause::Offset(query.with_limit(expr)))
+        }
         _ => landed(alloc, Clause::Limit(query), expr, token),
     }
 }

@@ -1,6 +1,6 @@
 //! `CREATE TABLE`, up to its end.
 
-ghost use Rattle.std.specs.Prelude.{◌≡◌, IfOk};
+ghost use Rattle.std.specs.Prelude.{◌≡◌, None, IfOk};
 ghost use Rattle.rq_grammar.specs.Places as spec;
 ghost use Rattle.rq_grammar.specs.Statements.{plain_column};
 ghost use Rattle.rq_grammar.specs.declared.place.Place.TheVariants as p;
@@ -96,7 +96,10 @@ pub(crate) fn column_named(table: NewTable, token: Token) -> Option<State>
 {
     match name_of(token) {
         Some(name) => Some(State::Flat(Place::ColumnNamed(table, name))),
-        None => None,
+        None => {
+            drop(table);
+            None
+        }
     }
 }
 
@@ -130,7 +133,10 @@ pub(crate) fn behind_column_name(table: NewTable, name: Text, token: &Token) -> 
             table,
             plain_column(name, ColumnKind::Blob),
         ))),
-        _ => None,
+        _ => {
+            drop(table);
+            None
+        }
     }
 }
 
@@ -149,14 +155,14 @@ pub(crate) fn behind_column(table: NewTable, column: ColumnDef, token: &Token) -
     Ok(match token {
         Token::Word(_, Word::Primary) => {
             if column.primary {
-                None
+                no_column(table, column)
             } else {
                 Some(State::Flat(Place::ColumnPrimary(table, column)))
             }
         }
         Token::Word(_, Word::Not) => {
             if column.not_null {
-                None
+                no_column(table, column)
             } else {
                 Some(State::Flat(Place::ColumnNot(table, column)))
             }
@@ -166,8 +172,17 @@ pub(crate) fn behind_column(table: NewTable, column: ColumnDef, token: &Token) -
         Token::Close => Some(State::Flat(Place::Ended(MeasuredStmt::create(add_column(
             table, column,
         )?)))),
-        _ => None,
+        _ => no_column(table, column),
     })
+}
+
+/// Lets go of a column behind which no such token may stand.
+fn no_column(table: NewTable, column: ColumnDef) -> Option<State>
+    ensures { result ≡ None }
+{
+    drop(table);
+    drop(column);
+    None
 }
 
 /// Behind a column's `UNIQUE`.
@@ -175,7 +190,7 @@ fn unique(table: NewTable, column: ColumnDef) -> Option<State>
     ensures { result ≡ spec.unset column.unique (p.Column table (spec.with_unique column)) }
 {
     if column.unique {
-        return None;
+        return no_column(table, column);
     }
     let mut column = column;
     column.unique = true;
@@ -192,7 +207,7 @@ pub(crate) fn behind_primary(table: NewTable, column: ColumnDef, token: &Token) 
             column.primary = true;
             Some(State::Flat(Place::Column(table, column)))
         }
-        _ => None,
+        _ => no_column(table, column),
     }
 }
 
@@ -206,6 +221,6 @@ pub(crate) fn behind_not(table: NewTable, column: ColumnDef, token: &Token) -> O
             column.not_null = true;
             Some(State::Flat(Place::Column(table, column)))
         }
-        _ => None,
+        _ => no_column(table, column),
     }
 }

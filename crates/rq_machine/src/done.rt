@@ -55,15 +55,13 @@ fn done_else(alloc: Global, m: u8, stack: Stack, expr: Measured, token: Token) -
         Token::Comma => ended(alloc, stack, expr, Token::Comma),
         Token::Close => ended(alloc, stack, expr, Token::Close),
         Token::Semi => ended(alloc, stack, expr, Token::Semi),
-        other => Ok(refuse(stack, expr, other)),
+        other => {
+            drop(stack);
+            drop(expr);
+            drop(other);
+            Ok(None)
+        }
     }
-}
-
-/// Lets go of what no token may follow.
-fn refuse(_stack: Stack, _expr: Measured, _token: Token) -> Option<State>
-    ensures { result ≡ None }
-{
-    None
 }
 
 fn done_word(alloc: Global, m: u8, stack: Stack, expr: Measured, name: Text, word: Word) -> Step
@@ -85,7 +83,11 @@ fn done_word(alloc: Global, m: u8, stack: Stack, expr: Measured, name: Text, wor
         | Word::Desc
         | Word::Limit
         | Word::Offset => ended(alloc, stack, expr, Token::Word(name, word)),
-        _ => Ok(refuse(stack, expr, Token::Word(name, word))),
+        _ => {
+            drop(stack);
+            drop(expr);
+            Ok(None)
+        }
     }
 }
 

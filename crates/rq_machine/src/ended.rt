@@ -1,6 +1,6 @@
 //! Behind a whole statement.
 
-ghost use Rattle.std.specs.Prelude.{◌≡◌, None};
+ghost use Rattle.std.specs.Prelude.{◌≡◌};
 ghost use Rattle.rq_grammar.specs.Places as spec;
 
 use rq_grammar::{MeasuredStmt, Place, State, Token};
@@ -11,12 +11,9 @@ pub(crate) fn behind_ended(stmt: MeasuredStmt, token: &Token) -> Option<State>
 {
     match token {
         Token::Semi => Some(State::Flat(Place::Ended(stmt))),
-        _ => no_state(stmt),
+        _ => {
+            drop(stmt);
+            None
+        }
     }
-}
-
-fn no_state(_stmt: MeasuredStmt) -> Option<State>
-    ensures { result ≡ None }
-{
-    None
 }

@@ -1,6 +1,6 @@
 //! The token behind an expression that it ends.
 
-ghost use Rattle.std.specs.Prelude.{◌≡◌, IfOk, None};
+ghost use Rattle.std.specs.Prelude.{◌≡◌, IfOk};
 ghost use Rattle.rq_grammar.specs.Machine as spec;
 ghost use Rattle.rq_grammar.specs.Stack as k;
 
@@ -16,7 +16,12 @@ fn paren_on(stack: Stack, expr: Measured, token: Token) -> Option<State>
 {
     match token {
         Token::Close => Some(State::Done(stack, 9, expr)),
-        other => no_more(None, stack, expr, other),
+        other => {
+            drop(stack);
+            drop(expr);
+            drop(other);
+            None
+        }
     }
 }
 
@@ -32,7 +37,14 @@ fn args_on(name: Text, mut args: MeasuredList, stack: Stack, expr: Measured, tok
             args.push(expr)?;
             Ok(Some(State::Done(stack, 9, Measured::call(name, args))))
         }
-        other => Ok(no_more(Some(Frame::Args { name, args }), stack, expr, other)),
+        other => {
+            drop(name);
+            drop(args);
+            drop(stack);
+            drop(expr);
+            drop(other);
+            Ok(None)
+        }
     }
 }
 
@@ -65,21 +77,14 @@ fn among_on(
             Ok(Some(State::Done(stack, 4, expr)))
         }
         other => {
-            let frame = Frame::Among {
-                negated,
-                left,
-                list,
-            };
-            Ok(no_more(Some(frame), stack, expr, other))
+            drop(left);
+            drop(list);
+            drop(stack);
+            drop(expr);
+            drop(other);
+            Ok(None)
         }
     }
-}
-
-/// Lets go of what the token doesn't end.
-fn no_more(_frame: Option<Frame>, _stack: Stack, _expr: Measured, _token: Token) -> Option<State>
-    ensures { result ≡ None }
-{
-    None
 }
 
 #[tactic(auto, unfolding(rq_grammar::specs::Machine::ended_on))]
@@ -97,7 +102,13 @@ fn ended_on(alloc: Global, token: Token, frame: Option<Frame>, stack: Stack, exp
             },
         ) => among_on(alloc, negated, left, list, stack, expr, token),
         Some(Frame::Clause(clause)) => clause_on(alloc, clause, expr, token),
-        other => Ok(no_more(other, stack, expr, token)),
+        other => {
+            drop(other);
+            drop(stack);
+            drop(expr);
+            drop(token);
+            Ok(None)
+        }
     }
 }
 
@@ -110,19 +121,17 @@ pub(crate) fn ended(alloc: Global, stack: Stack, expr: Measured, token: Token) -
     ended_on(alloc, token, frame, stack, expr)
 }
 
-fn no_end(_frame: Option<Frame>, _expr: Measured) -> Option<Stmt>
-    ensures { result ≡ None }
-{
-    None
-}
-
 #[tactic(auto, unfolding(rq_grammar::specs::Machine::end_on))]
 fn end_on(frame: Option<Frame>, expr: Measured) -> Result<Option<Stmt>, NoMemory>
     ensures { IfOk result (λ x. (st : k.Stack) → x ≡ spec.end_on frame st expr) }
 {
     match frame {
         Some(Frame::Clause(clause)) => landed_end(clause, expr),
-        other => Ok(no_end(other, expr)),
+        other => {
+            drop(other);
+            drop(expr);
+            Ok(None)
+        }
     }
 }
 
@@ -131,6 +140,7 @@ fn end_on(frame: Option<Frame>, expr: Measured) -> Result<Option<Stmt>, NoMemory
 pub(crate) fn end(alloc: Global, stack: Stack, expr: Measured) -> Result<Option<Stmt>, NoMemory>
     ensures { IfOk result (λ x. x ≡ k.split spec.end_at (k.reduce 0 stack expr)) }
 {
-    let (frame, _stack, expr) = opened(alloc, 0, stack, expr)?;
+    let (frame, stack, expr) = opened(alloc, 0, stack, expr)?;
+    drop(stack);
     end_on(frame, expr)
 }

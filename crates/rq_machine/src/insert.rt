@@ -1,6 +1,6 @@
 //! `INSERT`, up to its rows or its select.
 
-ghost use Rattle.std.specs.Prelude.{◌≡◌, ◌++◌, ◌∷◌, [], None, IfOk};
+ghost use Rattle.std.specs.Prelude.{◌≡◌, ◌++◌, ◌∷◌, [], IfOk};
 ghost use Rattle.rq_grammar.specs.Places as spec;
 ghost use Rattle.rq_grammar.specs.declared.place.Place.TheVariants as p;
 
@@ -64,7 +64,10 @@ pub(crate) fn behind_columns(alloc: Global, target: Target, token: &Token) -> Op
             alloc,
             Some(target),
         )))),
-        _ => None,
+        _ => {
+            drop(target);
+            None
+        }
     }
 }
 
@@ -82,7 +85,10 @@ pub(crate) fn column_listed(table: Text, names: Items<Text>, token: Token) -> St
 {
     match name_of(token) {
         Some(name) => Ok(Some(State::Flat(Place::Names(table, with_name(names, name)?)))),
-        None => Ok(None),
+        None => {
+            drop(names);
+            Ok(None)
+        }
     }
 }
 
@@ -96,7 +102,10 @@ pub(crate) fn behind_names(table: Text, names: Items<Text>, token: &Token) -> Op
             table,
             columns: Some(names),
         }))),
-        _ => None,
+        _ => {
+            drop(names);
+            None
+        }
     }
 }
 
@@ -118,14 +127,12 @@ pub(crate) fn behind_values(
                 row: MeasuredList::new(alloc),
             },
         ),
-        _ => Ok(no_row(target, rows)),
+        _ => {
+            drop(target);
+            drop(rows);
+            Ok(None)
+        }
     }
-}
-
-fn no_row(_target: Target, _rows: MeasuredRows) -> Option<State>
-    ensures { result ≡ None }
-{
-    None
 }
 
 /// Behind a row.

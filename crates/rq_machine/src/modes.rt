@@ -1,6 +1,6 @@
 //! The token within an operand, and behind `operand NOT`, `operand IS` and `operand IN`.
 
-ghost use Rattle.std.specs.Prelude.{◌≡◌, IfOk, None};
+ghost use Rattle.std.specs.Prelude.{◌≡◌, IfOk};
 ghost use Rattle.rq_grammar.specs.Stack as spec;
 ghost use Rattle.rq_grammar.specs.declared.token.Token.TheVariants as t;
 
@@ -11,20 +11,6 @@ use rq_grammar::{BinaryOp, Frame, Measured, MeasuredList, Stack, State, Token, W
 use rq_values::Text;
 use std::alloc::Global;
 
-/// Lets go of what no token may follow.
-fn no_name(_stack: Stack, _name: Text, _token: Token) -> Option<State>
-    ensures { result ≡ None }
-{
-    None
-}
-
-/// Lets go of what no token may follow.
-fn no_left(_stack: Stack, _left: Measured, _token: Token) -> Option<State>
-    ensures { result ≡ None }
-{
-    None
-}
-
 /// Behind `name .`
 pub(crate) fn dotted(stack: Stack, table: Text, token: Token) -> Option<State>
     ensures { result ≡ spec.dotted stack table token }
@@ -32,13 +18,19 @@ pub(crate) fn dotted(stack: Stack, table: Text, token: Token) -> Option<State>
     match token {
         Token::Word(column, word) => {
             if word.is_reserved() || word.is_time() {
+                drop(stack);
                 None
             } else {
                 Some(State::Done(stack, 9, Measured::qualified(table, column)))
             }
         }
         Token::Quoted(column) => Some(State::Done(stack, 9, Measured::qualified(table, column))),
-        other => no_name(stack, table, other),
+        other => {
+            drop(stack);
+            drop(table);
+            drop(other);
+            None
+        }
     }
 }
 
@@ -46,15 +38,23 @@ pub(crate) fn dotted(stack: Stack, table: Text, token: Token) -> Option<State>
 pub(crate) fn called(alloc: Global, stack: Stack, is_count: bool, name: Text, token: Token) -> Step
     ensures { IfOk result (λ x. x ≡ spec.opened stack is_count name token) }
 {
-    let args = MeasuredList::new(alloc);
     match token {
-        Token::Close => Ok(Some(State::Done(stack, 9, Measured::call(name, args)))),
-        Token::Star => Ok(if is_count {
-            Some(State::Counted(stack))
-        } else {
-            None
-        }),
-        other => pushed(stack, Frame::Args { name, args }, other),
+        Token::Close => {
+            let call = Measured::call(name, MeasuredList::new(alloc));
+            Ok(Some(State::Done(stack, 9, call)))
+        }
+        Token::Star => {
+            if is_count {
+                Ok(Some(State::Counted(stack)))
+            } else {
+                drop(stack);
+                Ok(None)
+            }
+        }
+        other => {
+            let args = MeasuredList::new(alloc);
+            pushed(stack, Frame::Args { name, args }, other)
+        }
     }
 }
 
@@ -64,7 +64,11 @@ pub(crate) fn counted(stack: Stack, token: Token) -> Option<State>
 {
     match token {
         Token::Close => Some(State::Done(stack, 9, Measured::count_all())),
-        other => no_left(stack, Measured::count_all(), other),
+        other => {
+            drop(stack);
+            drop(other);
+            None
+        }
     }
 }
 
@@ -74,7 +78,12 @@ pub(crate) fn denied(stack: Stack, left: Measured, token: Token) -> Step
 {
     match token {
         Token::Word(name, word) => denied_word(stack, left, name, word),
-        other => Ok(no_left(stack, left, other)),
+        other => {
+            drop(stack);
+            drop(left);
+            drop(other);
+            Ok(None)
+        }
     }
 }
 
@@ -97,7 +106,11 @@ fn denied_word(stack: Stack, left: Measured, _name: Text, word: Word) -> Step
                 left,
             },
         )?)),
-        _ => Ok(None),
+        _ => {
+            drop(stack);
+            drop(left);
+            Ok(None)
+        }
     }
 }
 
@@ -130,7 +143,12 @@ pub(crate) fn among(stack: Stack, negated: bool, left: Measured, token: Token) -
 {
     match token {
         Token::Open => Some(State::Listed(stack, negated, left)),
-        other => no_left(stack, left, other),
+        other => {
+            drop(stack);
+            drop(left);
+            drop(other);
+            None
+        }
     }
 }
 
@@ -144,9 +162,9 @@ pub(crate) fn listed(
 ) -> Step
     ensures { IfOk result (λ x. x ≡ spec.listed stack negated left token) }
 {
-    let list = MeasuredList::new(alloc);
     match token {
         Token::Close => {
+            let list = MeasuredList::new(alloc);
             let expr = Measured::in_list(alloc, negated, left, list)?;
             Ok(Some(State::Done(stack, 4, expr)))
         }
@@ -155,7 +173,7 @@ pub(crate) fn listed(
             Frame::Among {
                 negated,
                 left,
-                list,
+                list: MeasuredList::new(alloc),
             },
             other,
         ),

@@ -1,6 +1,6 @@
 //! Names, and the place behind one.
 
-ghost use Rattle.std.specs.Prelude.{◌≡◌, None};
+ghost use Rattle.std.specs.Prelude.{◌≡◌};
 ghost use Rattle.rq_grammar.specs.Places as spec;
 
 use rq_grammar::{State, Token};
@@ -15,12 +15,9 @@ pub(crate) fn name_of(token: Token) -> Option<Text>
     match token {
         Token::Word(name, word) => { if word.is_reserved() { None } else { Some(name) } }
         Token::Quoted(name) => Some(name),
-        other => no_name(other),
+        other => {
+            drop(other);
+            None
+        }
     }
-}
-
-fn no_name(_token: Token) -> Option<Text>
-    ensures { result ≡ None }
-{
-    None
 }

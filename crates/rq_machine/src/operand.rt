@@ -1,6 +1,6 @@
 //! The token where an operand is to come.
 
-ghost use Rattle.std.specs.Prelude.{◌≡◌, ◌∷◌, IfOk, None, false};
+ghost use Rattle.std.specs.Prelude.{◌≡◌, ◌∷◌, IfOk, false};
 ghost use Rattle.rq_grammar.specs.Stack as spec;
 ghost use Rattle.rq_grammar.specs.Load.{is_clause};
 ghost use Rattle.rq_grammar.specs.declared.token.Token.TheVariants as t;
@@ -25,7 +25,11 @@ pub(crate) fn operand(stack: Stack, token: Token) -> Step
         Token::Open => Ok(Some(on(stack, Frame::Paren)?)),
         Token::Plus => Ok(Some(State::Operand(with_plus(stack)?))),
         Token::Minus => Ok(Some(State::Signed(stack))),
-        other => Ok(refuse(stack, other)),
+        other => {
+            drop(stack);
+            drop(other);
+            Ok(None)
+        }
     }
 }
 
@@ -34,13 +38,6 @@ fn leaf(stack: Stack, expr: Measured) -> State
     ensures { result ≡ s.Done stack 9 expr }
 {
     State::Done(stack, 9, expr)
-}
-
-/// Lets go of what no token may follow.
-fn refuse(_stack: Stack, _token: Token) -> Option<State>
-    ensures { result ≡ None }
-{
-    None
 }
 
 fn operand_word(stack: Stack, name: Text, word: Word) -> Step
@@ -55,12 +52,14 @@ fn operand_word(stack: Stack, name: Text, word: Word) -> Step
             if stack.room() <= 3 {
                 Ok(Some(on(stack, Frame::Not)?))
             } else {
+                drop(stack);
                 Ok(None)
             }
         }
         Word::Count => Ok(Some(State::Named(stack, true, name))),
         _ => {
             if word.is_reserved() {
+                drop(stack);
                 Ok(None)
             } else {
                 Ok(Some(State::Named(stack, false, name)))
@@ -76,6 +75,7 @@ fn numeral(stack: Stack, n: u64) -> Option<State>
     if n < 0x8000_0000_0000_0000 {
         Some(leaf(stack, Measured::literal(Value::Int(n as i64))))
     } else {
+        drop(stack);
         None
     }
 }
@@ -109,6 +109,7 @@ fn negative(stack: Stack, n: u64) -> Option<State>
     } else if n == 0x8000_0000_0000_0000 {
         Some(leaf(stack, Measured::literal(Value::Int(i64::MIN))))
     } else {
+        drop(stack);
         None
     }
 }

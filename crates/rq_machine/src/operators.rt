@@ -1,6 +1,6 @@
 //! An operator behind an operand of level `m`.
 
-ghost use Rattle.std.specs.Prelude.{◌≡◌, ◌∷◌, IfOk, None, false};
+ghost use Rattle.std.specs.Prelude.{◌≡◌, ◌∷◌, IfOk, false};
 ghost use Rattle.rq_grammar.specs.Stack as spec;
 ghost use Rattle.rq_grammar.specs.declared.expr.BinaryOp.TheVariants as op;
 ghost use Rattle.rq_grammar.specs.declared.frame.Frame.TheVariants as f;
@@ -97,6 +97,8 @@ fn plain_and(m: u8, stack: Stack, expr: Measured) -> Step
         };
         Ok(Some(on(stack, frame)?))
     } else {
+        drop(stack);
+        drop(expr);
         Ok(None)
     }
 }

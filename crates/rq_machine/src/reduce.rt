@@ -19,15 +19,11 @@ fn build(alloc: Global, frame: Frame, operand: Measured) -> Result<Measured, NoM
         Frame::Not => Measured::not(alloc, operand),
         Frame::Minus => Measured::minus(alloc, operand),
         Frame::High { negated, left, low } => Measured::between(alloc, negated, left, low, operand),
-        other => Ok(unchanged(other, operand)),
+        other => {
+            drop(other);
+            Ok(operand)
+        }
     }
-}
-
-/// The operand of a frame that makes no node of it.
-fn unchanged(_frame: Frame, operand: Measured) -> Measured
-    ensures { result ≡ operand }
-{
-    operand
 }
 
 /// Ends what ends before an operator of this level.
@@ -59,6 +55,8 @@ pub(crate) fn tied(
     if k <= m && stack.room() <= k {
         Ok(Some((stack, expr)))
     } else {
+        drop(stack);
+        drop(expr);
         Ok(None)
     }
 }

@@ -1,6 +1,6 @@
 //! `SELECT`, between its expressions.
 
-ghost use Rattle.std.specs.Prelude.{◌≡◌, ◌∷◌, [], Some, None, IfOk};
+ghost use Rattle.std.specs.Prelude.{◌≡◌, ◌∷◌, [], Some, IfOk};
 ghost use Rattle.rq_grammar.specs.Places as spec;
 ghost use Rattle.rq_grammar.specs.declared.place.Place.TheVariants as p;
 ghost use Rattle.rq_grammar.specs.declared.place.Stage.TheVariants as stage;
@@ -12,7 +12,6 @@ use crate::ended::behind_ended;
 use crate::names::{Step, name_of};
 use crate::operand::operand;
 use rq_grammar::{Clause, Measured, MeasuredQuery, Place, Stage, State, Token, Word};
-use rq_values::Text;
 use std::alloc::Global;
 
 /// A result is to come.
@@ -20,7 +19,10 @@ pub(crate) fn result_at(alloc: Global, query: MeasuredQuery, token: Token) -> St
     ensures { IfOk result (λ next. next ≡ spec.result query token) }
 {
     match &token {
-        Token::Star => Ok(Some(State::Flat(Place::Tail(Stage::Results, query.with_all()?)))),
+        Token::Star => {
+            drop(token);
+            Ok(Some(State::Flat(Place::Tail(Stage::Results, query.with_all()?))))
+        }
         _ => operand(stack_of(alloc, Clause::Results(query))?, token),
     }
 }
@@ -29,47 +31,30 @@ pub(crate) fn result_at(alloc: Global, query: MeasuredQuery, token: Token) -> St
 pub(crate) fn alias_named(query: MeasuredQuery, expr: Measured, token: Token) -> Step
     ensures { IfOk result (λ next. next ≡ spec.on_name (spec.name_of token) (λ n. p.Tail stage.Results (spec.add_result query (item.Value expr (Some n))))) }
 {
-    on_alias(query, expr, name_of(token))
-}
-
-fn on_alias(query: MeasuredQuery, expr: Measured, name: Option<Text>) -> Step
-    ensures { IfOk result (λ next. next ≡ spec.on_name name (λ n. p.Tail stage.Results (spec.add_result query (item.Value expr (Some n))))) }
-{
-    match name {
+    match name_of(token) {
         Some(name) => {
             let query = query.with_result(expr, Some(name))?;
             Ok(Some(State::Flat(Place::Tail(Stage::Results, query))))
         }
-        None => Ok(no_result(query, expr)),
+        None => {
+            drop(query);
+            drop(expr);
+            Ok(None)
+        }
     }
-}
-
-fn no_result(_query: MeasuredQuery, _expr: Measured) -> Option<State>
-    ensures { result ≡ None }
-{
-    None
 }
 
 /// The table's name is to come.
 pub(crate) fn from_named(query: MeasuredQuery, token: Token) -> Option<State>
     ensures { result ≡ spec.on_name (spec.name_of token) (λ n. p.Tail stage.Source (spec.with_table query n)) }
 {
-    on_from(query, name_of(token))
-}
-
-fn on_from(query: MeasuredQuery, name: Option<Text>) -> Option<State>
-    ensures { result ≡ spec.on_name name (λ n. p.Tail stage.Source (spec.with_table query n)) }
-{
-    match name {
+    match name_of(token) {
         Some(name) => Some(State::Flat(Place::Tail(Stage::Source, query.with_table(name)))),
-        None => no_query(query),
+        None => {
+            drop(query);
+            None
+        }
     }
-}
-
-fn no_query(_query: MeasuredQuery) -> Option<State>
-    ensures { result ≡ None }
-{
-    None
 }
 
 /// Behind `ORDER`.
@@ -78,7 +63,10 @@ pub(crate) fn behind_order(alloc: Global, query: MeasuredQuery, token: &Token) -
 {
     match token {
         Token::Word(_, Word::By) => inside(alloc, Clause::Order(query)),
-        _ => Ok(no_query(query)),
+        _ => {
+            drop(query);
+            Ok(None)
+        }
     }
 }
 

@@ -1,6 +1,6 @@
 //! The machine: the next state, and the statement at the end.
 
-ghost use Rattle.std.specs.Prelude.{◌≡◌, IfOk, None};
+ghost use Rattle.std.specs.Prelude.{◌≡◌, IfOk};
 ghost use Rattle.rq_grammar.specs.Machine as spec;
 
 use crate::done::{done, named, quoted};
@@ -45,12 +45,9 @@ pub(crate) fn finish(alloc: Global, state: State) -> Result<Option<Stmt>, NoMemo
         State::Quoted(stack, name) => end(alloc, stack, Measured::name(name)),
         State::Named(stack, _is_count, name) => end(alloc, stack, Measured::name(name)),
         State::Done(stack, _level, expr) => end(alloc, stack, expr),
-        other => Ok(no_end(other)),
+        other => {
+            drop(other);
+            Ok(None)
+        }
     }
-}
-
-fn no_end(_state: State) -> Option<Stmt>
-    ensures { result ≡ None }
-{
-    None
 }

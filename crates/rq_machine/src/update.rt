@@ -1,6 +1,6 @@
 //! `UPDATE`, between its expressions.
 
-ghost use Rattle.std.specs.Prelude.{◌≡◌, None, IfOk};
+ghost use Rattle.std.specs.Prelude.{◌≡◌, IfOk};
 ghost use Rattle.rq_grammar.specs.Places as spec;
 ghost use Rattle.rq_grammar.specs.declared.place.Place.TheVariants as p;
 
@@ -37,22 +37,13 @@ pub(crate) fn behind_update(alloc: Global, table: Text, token: &Token) -> Option
 pub(crate) fn set_named(table: Text, sets: MeasuredSets, token: Token) -> Option<State>
     ensures { result ≡ spec.on_name (spec.name_of token) (p.SetName table sets) }
 {
-    on_set_name(table, sets, name_of(token))
-}
-
-fn on_set_name(table: Text, sets: MeasuredSets, name: Option<Text>) -> Option<State>
-    ensures { result ≡ spec.on_name name (p.SetName table sets) }
-{
-    match name {
+    match name_of(token) {
         Some(name) => Some(State::Flat(Place::SetName(table, sets, name))),
-        None => no_set(sets),
+        None => {
+            drop(sets);
+            None
+        }
     }
-}
-
-fn no_set(_sets: MeasuredSets) -> Option<State>
-    ensures { result ≡ None }
-{
-    None
 }
 
 /// Behind the name of a column to set.
@@ -67,7 +58,10 @@ pub(crate) fn behind_set_name(
 {
     match token {
         Token::Equal => inside(alloc, Clause::Set { table, sets, name }),
-        _ => Ok(no_set(sets)),
+        _ => {
+            drop(sets);
+            Ok(None)
+        }
     }
 }
 

@@ -38,6 +38,7 @@ fn limit(opened: u32, next: State) -> Result<State, Stop>
     if fits(opened, &next) {
         Ok(next)
     } else {
+        drop(next);
         Err(Stop::TooDeep)
     }
 }
