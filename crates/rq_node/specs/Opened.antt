@@ -48,9 +48,9 @@ pub record IsNoLog (entries : List Entry) (e : NodeError) : Type 0 where
   pub readable : AreReadable log
   pub wrong : IsNoEntry (length log + 1) entry.body e
 
--- why what a pair was read as starts no node
+-- why what a pair was read as starts no node: it was started too often, or else its log is none of a node's
 abbrev pub IsRefusal : Result Stored OpenError → NodeError → Type 0
-IsRefusal (Ok stored) e = ((most_boots ≤ stored.boot) × (e ≡ errors.Ended stored.boot)) ⊎ IsNoLog stored.entries e
+IsRefusal (Ok stored) e = ((most_boots ≤ stored.boot) × (e ≡ errors.Ended stored.boot)) ⊎ ((stored.boot < most_boots) × IsNoLog stored.entries e)
 IsRefusal (Err error) e = e ≡ refusal_of error
 
 -- what a pair was read as starts this node
