@@ -1,5 +1,5 @@
 -- Turns that take the node of a server down.
-use Rattle.std.proofs.Common.{◌≡◌, ◌⊎◌, inl, inr, ◌≤◌, ◌<◌, ◌+◌, ◌-◌, ◌*◌, ◌^◌, ℕ, Bool, IsTrue, List, [], ◌∷◌, ◌++◌, length, take, Option, Some, None, Result, Ok, Err, nat_le, true, false, refl, sym, ◌∙◌, ap, subst, arith}
+use Rattle.std.proofs.Common.{◌≡◌, ◌⊎◌, inl, inr, ◌≤◌, ◌<◌, ◌+◌, ◌-◌, ◌*◌, ◌^◌, ℕ, Bool, IsTrue, List, [], ◌∷◌, ◌++◌, length, take, Option, Some, None, Result, Ok, Err, nat_le, false, refl, sym, ◌∙◌, ap, subst, arith}
 use Rattle.std.specs.Prelude.{All, OnOk}
 use Rattle.std.proofs.lemmas.Bool.Decides.{nat_tests}
 use Rattle.std.proofs.lemmas.List.Elements.{All-append, All-take, All-head, All-tail, All-nil}
@@ -9,10 +9,7 @@ use Rattle.rq_outside.specs.declared.pair.Arm.TheVariants.{Off, Passes, Struck}
 use Rattle.rq_outside.specs.declared.pair.FileNo.TheVariants.{One, Two}
 use Rattle.rq_outside.specs.Disk.{DiskMeaning}
 use Rattle.rq_outside.specs.Pair.{arm_of, disk_at}
-use Rattle.rq_wal.specs.declared.base.Stored.{Stored}
-use Rattle.rq_wal.specs.declared.error.OpenError.{OpenError}
 use Rattle.rq_wal.specs.Calls.{IsShort}
-use Rattle.rq_wal.specs.Current.{EachImage}
 use Rattle.rq_wal.specs.Reading.{pair_gives}
 use Rattle.rq_wal.specs.Later.{DeviceRose}
 use Rattle.rq_node.specs.declared.node.Node.{Node as RunningNode}
@@ -20,8 +17,8 @@ use Rattle.rq_node.specs.declared.log_entry.LogEntry.{LogEntry}
 use Rattle.rq_node.specs.Files.{first_base, stored_of}
 use Rattle.rq_node.specs.Node.{Node, Kept, Durable, Vote, Splice, Boot, Turn, kept_of, kept_with, kept_after}
 use Rattle.rq_node.specs.Sound.{AreReadable, IsKeptReadable}
-use Rattle.rq_node.specs.Standing.{IsOpen, Stands, CanBeRead, IsSomeOf, IsItemReadable, IsBroken}
-use Rattle.rq_script.specs.Cluster.{Stand, Running, Down, Armed, Server, Course, needed, passes, happens_at, gone_down, numbers}
+use Rattle.rq_node.specs.Standing.{IsOpen, Stands, CanBeRead, IsItemReadable, IsBroken}
+use Rattle.rq_script.specs.Cluster.{Stand, Down, Armed, Server, Course, needed, passes, gone_down, numbers}
 use Rattle.rq_script.specs.ScriptText.{down_text}
 use Rattle.rq_cluster.specs.Acting.{Act, event, Crashed, HasStruck}
 use Rattle.rq_cluster.specs.declared.arming.Arming.{Arming}
@@ -30,7 +27,7 @@ use Rattle.rq_cluster.specs.Shown.{ShowsServer, ShowsStand, IsArmed, LetsPass, G
 use Rattle.rq_cluster.specs.Standing.{Rises, StandsAs, ServerStands}
 use Rattle.rq_cluster.proofs.Pairs.{LogsStand, open_stands, SameDisks, NoFewer, fewer_same, rises_on, rises_more}
 use Rattle.rq_cluster.proofs.Results.{on_ok_map}
-use Rattle.rq_cluster.proofs.Turns.{IsNode, node_shown, lets_some, failing, striking, turn_failed, turn_struck}
+use Rattle.rq_cluster.proofs.Turns.{node_shown, lets_some, failing, striking, turn_failed, turn_struck}
 
 -- ---- what can be read
 

@@ -1,23 +1,23 @@
 -- What a pair keeps where only its arming changes, and how its counts rise.
-use Rattle.std.proofs.Common.{◌≡◌, ◌⊎◌, inl, inr, ◌≤◌, ◌<◌, ◌+◌, ◌-◌, ◌^◌, ℕ, Bool, IsTrue, List, [], ◌∷◌, take, Option, Some, None, Result, Ok, min, nat_le, true, false, refl, sym, ◌∙◌, ap, subst, arith}
+use Rattle.std.proofs.Common.{◌≡◌, ◌⊎◌, inl, inr, ◌≤◌, ◌+◌, ◌-◌, ◌^◌, ℕ, Bool, List, [], take, Option, Some, None, Result, Ok, nat_le, true, false, refl, sym, ap, subst, arith}
 use Rattle.rq_outside.specs.declared.pair.DiskPair.{DiskPair}
 use Rattle.rq_outside.specs.declared.pair.FileNo.{FileNo}
 use Rattle.rq_outside.specs.declared.pair.FileNo.TheVariants.{One, Two}
 use Rattle.rq_outside.specs.Counts.{Rose}
-use Rattle.rq_outside.specs.Disk.{DiskMeaning, Only}
+use Rattle.rq_outside.specs.Disk.{DiskMeaning}
 use Rattle.rq_outside.specs.Pair.{disk_at, other}
 use Rattle.rq_wal.specs.declared.base.Base.{Base}
 use Rattle.rq_wal.specs.declared.base.Stored.{Stored}
 use Rattle.rq_wal.specs.declared.error.OpenError.{OpenError}
 use Rattle.rq_wal.specs.declared.file.WalFile.{WalFile}
-use Rattle.rq_wal.specs.Current.{EachImage, IsCurrent, IsBehind}
+use Rattle.rq_wal.specs.Current.{EachImage, IsCurrent}
 use Rattle.rq_wal.specs.Gate.{IsAtRest}
 use Rattle.rq_wal.specs.Later.{Later, DeviceRose}
 use Rattle.rq_wal.specs.Log.{IsLog}
 use Rattle.rq_wal.specs.WalFile.{wal_file, wal_end, wal_generation}
 use Rattle.rq_node.specs.declared.node.Node.{Node as RunningNode}
 use Rattle.rq_node.specs.Files.{first_base, stored_of}
-use Rattle.rq_node.specs.Node.{Node, Kept, Durable, kept_of, kept_after}
+use Rattle.rq_node.specs.Node.{Kept, Durable, kept_of}
 use Rattle.rq_node.specs.Standing.{Stands, HasFile, IsOpen, IsSomeOf}
 use Rattle.rq_cluster.specs.Standing.{Rises}
 

@@ -1,6 +1,6 @@
 -- What the rules of a node leave as it is.
 use Rattle.std.proofs.Common.{◌≡◌, ◌≤◌, ◌||◌, ◌==◌, ◌+◌, ◌-◌, ◌^◌, if◌then◌else◌, ℕ, Bool, true, false, Some, List, [], ◌∷◌, length, refl, arith, nat_lt}
-use Rattle.std.specs.Prelude.{All, ⊤}
+use Rattle.std.specs.Prelude.{All}
 use Rattle.std.proofs.lemmas.List.Elements.{All-cons, All-nil}
 use Rattle.rq_engine.specs.declared.item.Item.{Item}
 use Rattle.rq_engine.specs.declared.say.Say.TheVariants.{NoLeader, EntryTooLarge}
@@ -8,7 +8,7 @@ use Rattle.rq_engine.specs.Command.{execute_bytes}
 use Rattle.rq_node.specs.declared.log_entry.LogEntry.{LogEntry}
 use Rattle.rq_node.specs.declared.log_entry.Content.{Content}
 use Rattle.rq_node.specs.declared.log_entry.Content.TheVariants.{NoOp, Execute}
-use Rattle.rq_node.specs.Node.{Node, Durable, Vote, Turn, quiet, says, kept_of}
+use Rattle.rq_node.specs.Node.{Node, Vote, Turn, quiet, says, kept_of}
 use Rattle.rq_node.specs.Rules.{elect, led, risen, entry_in, splice_of, execute, execute_sized, taken_up, is_leader}
 use Rattle.rq_node.specs.Sound.{AreReadable, IsKeptReadable, IsReadable, most_bytes}
 use Rattle.rq_node.specs.Standing.{CanBeRead, IsItemReadable}

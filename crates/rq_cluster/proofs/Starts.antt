@@ -1,5 +1,5 @@
 -- Nodes that start, stop and are armed.
-use Rattle.std.proofs.Common.{◌≡◌, ◌⊎◌, inl, inr, ◌≤◌, ◌<◌, ◌+◌, ◌-◌, ◌^◌, ℕ, zero, suc, Bool, IsTrue, List, [], ◌∷◌, ◌++◌, length, take, Option, Some, None, Result, Ok, refl, sym, ◌∙◌, ap, subst, arith}
+use Rattle.std.proofs.Common.{◌≡◌, ◌⊎◌, inl, inr, ◌≤◌, ◌+◌, ◌-◌, ◌^◌, ℕ, zero, suc, Bool, List, [], ◌∷◌, ◌++◌, take, Option, Some, None, refl, sym, ◌∙◌, ap, subst, arith}
 use Rattle.std.specs.Prelude.{All}
 use Rattle.std.proofs.lemmas.List.{append-nil}
 use Rattle.std.proofs.lemmas.List.Elements.{All-take, All-cons, All-nil}
@@ -8,30 +8,25 @@ use Rattle.rq_outside.specs.declared.pair.Arm.{Arm}
 use Rattle.rq_outside.specs.declared.pair.Arm.TheVariants.{Off, Passes, Struck}
 use Rattle.rq_outside.specs.Disk.{DiskMeaning}
 use Rattle.rq_outside.specs.Pair.{arm_of}
-use Rattle.rq_wal.specs.declared.file.WalFile.{WalFile}
-use Rattle.rq_wal.specs.declared.base.Base.{Base}
-use Rattle.rq_wal.specs.declared.base.Stored.{Stored}
 use Rattle.rq_wal.specs.Calls.{PassesMost}
-use Rattle.rq_wal.specs.Current.{EachImage, IsCurrent}
 use Rattle.rq_wal.specs.Later.{DeviceRose}
 use Rattle.rq_node.specs.declared.node.Node.{Node as RunningNode}
 use Rattle.rq_node.specs.declared.error.NodeError.{NodeError}
 use Rattle.rq_node.specs.declared.error.NodeError.TheVariants as errors
-use Rattle.rq_node.specs.Files.{first_base, stored_of, first_kept}
-use Rattle.rq_node.specs.Node.{Node, Kept, Durable, Boot, Turn, kept_of, kept_after}
+use Rattle.rq_node.specs.Node.{Node, Durable, Boot, kept_of, kept_after}
 use Rattle.rq_node.specs.Rules.{started}
 use Rattle.rq_node.specs.Sound.{AreReadable}
-use Rattle.rq_node.specs.Standing.{HasFile, IsOpen, Stands, CanBeRead, IsSomeOf, IsItemReadable, FailedOpening}
-use Rattle.rq_script.specs.Cluster.{Stand, Running, Down, Armed, Server, Course, NoFault, Reading, Storing, gone_down, numbers, opens, new_server}
-use Rattle.rq_script.specs.ScriptText.{up_text, down_text}
+use Rattle.rq_node.specs.Standing.{IsOpen, Stands, IsItemReadable, FailedOpening}
+use Rattle.rq_script.specs.Cluster.{Stand, Running, Down, Armed, Server, Course, NoFault, Reading, Storing, gone_down, numbers, opens}
+use Rattle.rq_script.specs.ScriptText.{up_text}
 use Rattle.rq_cluster.specs.Acting.{Act, Crashed, start as start_act, stop as stop_act, arm as arm_act}
 use Rattle.rq_cluster.specs.declared.arming.Arming.{Arming}
 use Rattle.rq_cluster.specs.declared.host.Host.{Host}
 use Rattle.rq_cluster.specs.Shown.{ShowsServer, ShowsStand, IsArmed, LetsPass, armed_of}
 use Rattle.rq_cluster.specs.Standing.{Rises, StandsAs, ServerStands}
 use Rattle.rq_cluster.proofs.Pairs.{LogsStand, open_stands, SameDisks, NoFewer, fewer_same, rises_on, rises_more, stands_same}
-use Rattle.rq_cluster.proofs.Turns.{IsNode, IsDown, node_shown, down_shown}
-use Rattle.rq_cluster.proofs.Downs.{GoesDown, down_breaks, readable_after, settled, fewer_crashed, fewer_on}
+use Rattle.rq_cluster.proofs.Turns.{IsDown, node_shown, down_shown}
+use Rattle.rq_cluster.proofs.Downs.{GoesDown, down_breaks, readable_after, settled, fewer_crashed}
 
 take_none : (k : ℕ) → take {A = Durable} k [] ≡ []
 take_none zero = refl

@@ -1,20 +1,20 @@
 -- Turns at the node of a server.
-use Rattle.std.proofs.Common.{◌≡◌, ◌⊎◌, inl, inr, ◌≤◌, ◌<◌, ◌+◌, ◌-◌, ◌*◌, ◌^◌, ℕ, Bool, IsTrue, List, [], ◌∷◌, ◌++◌, length, take, Option, Some, None, is_some, nat_le, true, false, refl, sym, ◌∙◌, ap, subst, arith}
+use Rattle.std.proofs.Common.{◌≡◌, ◌≤◌, ◌+◌, ◌-◌, ◌*◌, ◌^◌, ℕ, Bool, List, [], ◌∷◌, ◌++◌, length, take, Option, Some, None, is_some, true, false, refl, sym, ◌∙◌, ap, subst, arith}
 use Rattle.std.specs.Prelude.{SomeIff}
 use Rattle.std.proofs.lemmas.Bool.Decides.{nat_tests}
 use Rattle.std.proofs.lemmas.List.{append-nil}
 use Rattle.rq_outside.specs.declared.pair.DiskPair.{DiskPair}
 use Rattle.rq_outside.specs.declared.pair.Arm.{Arm}
-use Rattle.rq_outside.specs.declared.pair.Arm.TheVariants.{Off, Passes, Struck}
+use Rattle.rq_outside.specs.declared.pair.Arm.TheVariants.{Passes, Struck}
 use Rattle.rq_outside.specs.Disk.{DiskMeaning}
 use Rattle.rq_outside.specs.Pair.{arm_of, UsedCalls}
 use Rattle.rq_node.specs.declared.node.Node.{Node as RunningNode}
 use Rattle.rq_node.specs.Node.{Node, Kept, Durable, Turn, kept_of, kept_after}
 use Rattle.rq_node.specs.Standing.{IsOpen, Stands, CanBeRead}
-use Rattle.rq_script.specs.Cluster.{Stand, Running, Down, Armed, Server, Course, Fault, NoFault, Reading, Storing, Fate, Done, Struck as HasStruck, Failed, fate, fate_of, ended, needed, passes, left_after, happens, happens_at, gone_down, whole}
+use Rattle.rq_script.specs.Cluster.{Stand, Running, Down, Armed, Server, Course, NoFault, Storing, Fate, Done, Struck as HasStruck, fate, fate_of, ended, needed, passes, left_after, happens, happens_at, gone_down, whole}
 use Rattle.rq_engine.specs.declared.say.Answer.{Answer}
 use Rattle.rq_script.specs.ScriptText.{answer_text, answers_text, down_text}
-use Rattle.rq_cluster.specs.Acting.{Act, event}
+use Rattle.rq_cluster.specs.Acting.{event}
 use Rattle.rq_cluster.specs.declared.arming.Arming.{Arming}
 use Rattle.rq_cluster.specs.declared.host.Host.{Host}
 use Rattle.rq_cluster.specs.Shown.{ShowsServer, ShowsStand, IsArmed, LetsPass, armed_of}

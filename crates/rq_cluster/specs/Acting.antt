@@ -8,10 +8,9 @@ use Rattle.rq_outside.specs.Disk.{DiskMeaning, Only}
 use Rattle.rq_outside.specs.Pair.{arm_of, disk_at}
 use Rattle.rq_engine.specs.declared.item.Item.{Item}
 use Rattle.rq_node.specs.declared.node.Node.{Node as RunningNode}
-use Rattle.rq_node.specs.Files.{first_kept}
 use Rattle.rq_node.specs.Node.{Node, Turn, kept_of}
 use Rattle.rq_node.specs.Rules as rules
-use Rattle.rq_script.specs.Cluster.{Stand, Running, Down, Server, Course, happens_at, opens, gone_down, new_server, numbers}
+use Rattle.rq_script.specs.Cluster.{Stand, Running, Down, Server, Course, happens_at, opens, gone_down, numbers}
 use Rattle.rq_script.specs.ScriptText.{answers_text, down_text, show_text, show_down_text}
 use Rattle.rq_cluster.specs.declared.arming.Arming.{Arming}
 use Rattle.rq_cluster.specs.declared.host.Host.{Host}

@@ -1,12 +1,11 @@
 -- Which cluster the running program and its pairs show.
-use Rattle.std.specs.Prelude.{◌≡◌, ◌⊎◌, ◌<◌, ◌-◌, ◌^◌, ◌++◌, ℕ, Bool, IsTrue, true, List, [], length, slice_get, Option, Some, None, ⊤}
+use Rattle.std.specs.Prelude.{◌≡◌, ◌⊎◌, ◌<◌, ◌-◌, ◌^◌, ◌++◌, ℕ, Bool, IsTrue, List, [], length, slice_get, Option, Some, None, ⊤}
 use Rattle.std.specs.Option.{option_map}
 use Rattle.rq_outside.specs.declared.pair.DiskPair.{DiskPair}
 use Rattle.rq_outside.specs.declared.pair.Arm.TheVariants.{Passes, Struck}
 use Rattle.rq_outside.specs.Disk.{DiskMeaning}
 use Rattle.rq_outside.specs.Pair.{arm_of}
 use Rattle.rq_node.specs.declared.node.Node.{Node as RunningNode}
-use Rattle.rq_node.specs.Node.{Kept, Durable}
 use Rattle.rq_node.specs.Standing.{IsOpen, Stands, CanBeRead}
 use Rattle.rq_engine.specs.declared.item.Item.{Item}
 use Rattle.rq_script.specs.Cluster.{Stand, Running, Down, Armed, Server, Cluster, Course, Steps, MayReach, named, done, whole}

@@ -1,4 +1,4 @@
-use Rattle.std.proofs.Common.{[], ◌∷◌, ◌++◌, List, ℕ, ◌≡◌, inl, Some, Err, ◌∙◌, sym, ap, subst, refl}
+use Rattle.std.proofs.Common.{[], ◌++◌, List, ◌≡◌, inl, Err, ◌∙◌, sym, ap, subst, refl}
 use Rattle.std.proofs.lemmas.List.{append-nil}
 use Rattle.rq_engine.specs.declared.say.Answer.{Answer}
 use Rattle.rq_node.specs.Node.{Node}

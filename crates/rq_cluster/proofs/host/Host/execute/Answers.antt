@@ -1,4 +1,4 @@
-use Rattle.std.proofs.Common.{[], ◌∷◌, ◌++◌, ◌*◌, List, ℕ, ◌≡◌, inl, Option, Some, Err, length, ◌∙◌, sym, ap, subst, refl}
+use Rattle.std.proofs.Common.{[], ◌∷◌, ◌++◌, ◌*◌, ℕ, ◌≡◌, inl, Option, Err, length, ◌∙◌, sym, ap, subst, refl}
 use Rattle.std.proofs.lemmas.List.{append-nil}
 use Rattle.rq_outside.specs.Pair.{arm_of, UsedCalls}
 use Rattle.rq_engine.specs.declared.say.Answer.{Answer}

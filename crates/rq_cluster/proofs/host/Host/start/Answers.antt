@@ -1,16 +1,13 @@
-use Rattle.std.proofs.Common.{[], ◌++◌, ◌+◌, ◌⊎◌, inl, inr, List, ℕ, ◌≡◌, Some, None, Err, IsTrue, take, ◌∙◌, sym, ap, subst, refl}
+use Rattle.std.proofs.Common.{[], ◌++◌, ◌+◌, List, ℕ, ◌≡◌, Some, Err, take, ◌∙◌, sym, ap, subst, refl}
 use Rattle.std.proofs.lemmas.List.{append-nil}
-use Rattle.rq_outside.specs.declared.pair.DiskPair.{DiskPair}
-use Rattle.rq_node.specs.declared.error.NodeError.{NodeError}
-use Rattle.rq_node.specs.Node.{Node, kept_after}
+use Rattle.rq_node.specs.Node.{kept_after}
 use Rattle.rq_node.specs.Rules.{started}
 use Rattle.rq_node.specs.Standing.{Stands, FailedOpening}
-use Rattle.rq_script.specs.Cluster.{Server}
 use Rattle.rq_script.specs.ScriptText.{up_text, down_text}
 use Rattle.rq_cluster.specs.Acting.{start as start_act}
 use Rattle.rq_cluster.specs.declared.host.Host.{Host}
-use Rattle.rq_cluster.specs.Shown.{ShowsServer, BreaksOff}
-use Rattle.rq_cluster.proofs.Downs.{GoesDown, down_goes, down_breaks, goes_of}
+use Rattle.rq_cluster.specs.Shown.{BreaksOff}
+use Rattle.rq_cluster.proofs.Downs.{down_goes, down_breaks, goes_of}
 use Rattle.rq_cluster.proofs.Pairs.{SameDisks, NoFewer, fewer_later}
 use Rattle.rq_cluster.proofs.Results.{on_ok_map, on_err_always}
 use Rattle.rq_cluster.proofs.Starts.{is_down, stood, starts_running, starts_down, starts_refused, breaks_after}

@@ -1,4 +1,4 @@
-use Rattle.std.proofs.Common.{◌++◌, List, ℕ, ◌≡◌, Some, ◌∙◌, sym, ap, subst, refl}
+use Rattle.std.proofs.Common.{◌++◌, ◌≡◌, ◌∙◌, sym, subst, refl}
 use Rattle.rq_node.specs.Node.{Node}
 use Rattle.rq_node.specs.Sound.{AreReadable}
 use Rattle.rq_script.specs.Cluster.{numbers}
