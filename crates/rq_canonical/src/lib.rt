@@ -11,6 +11,3 @@ pub use laws::{
 };
 pub use rereading::read_printed;
 pub use written::each_statement_is_written;
-
-#[cfg(test)]
-mod tests;

@@ -19,12 +19,6 @@ mod words;
 mod world;
 
 pub use memory_pairs::empty_pairs;
+pub use nine_pairs::{MakesDisks, nine_pairs};
 pub use rq_script::laws;
 pub use running::cluster_main;
-
-#[cfg(test)]
-mod order_tests;
-#[cfg(test)]
-mod stop_tests;
-#[cfg(test)]
-mod tests;

@@ -1,33 +1,24 @@
 //! Pairs of disks for a script in memory.
-ghost use Rattle.std.specs.Prelude.{◌≡◌, true, [], IfOk};
-ghost use Rattle.rq_outside.specs.Disk.{Only};
+ghost use Rattle.std.specs.Prelude.{true, IfOk};
 ghost use Rattle.rq_cluster.specs.Standing.{AreNew};
 ghost use Rattle.rq_cluster.specs.EmptyPairs.{sure_means};
 
-use crate::nine_pairs::{MakesPairs, nine_pairs};
-use rq_outside::{Disk, DiskPair, SureDisk};
+use crate::nine_pairs::{MakesDisks, nine_pairs};
+use rq_outside::{Disk, DiskPair, FileNo, SureDisk};
 use rq_values::NoMemory;
 use std::alloc::Global;
 
-/// An empty disk in memory, whatever a crash leaves.
-pub(crate) fn empty_disk(alloc: Global) -> Result<SureDisk, NoMemory>
-    ensures { IfOk result (λ disk. Only [] (sure_means disk).images) }
-{
-    let mut disk = SureDisk::new(alloc, Vec::new(alloc))?;
-    disk.ready(0, 1)?;
-    match disk.sync() {
-        Ok(()) => Ok(disk),
-        Err(_) => Err(NoMemory),
-    }
-}
+/// Disks in memory that never fail.
+struct SureDisks;
 
-/// Pairs of such disks.
-struct EmptyPairs;
-
-impl MakesPairs<SureDisk> for EmptyPairs {
-    #[tactic(auto, using(crate::proofs::Emptiness::empty_is_new))]
-    fn pair(&self, alloc: Global, _place: usize) -> Result<DiskPair<SureDisk>, NoMemory> {
-        Ok(DiskPair::new(empty_disk(alloc)?, empty_disk(alloc)?))
+impl MakesDisks<SureDisk> for SureDisks {
+    fn disk(&self, alloc: Global, _place: usize, _file: FileNo) -> Result<SureDisk, NoMemory> {
+        let mut disk = SureDisk::new(alloc, Vec::new(alloc))?;
+        disk.ready(0, 1)?;
+        match disk.sync() {
+            Ok(()) => Ok(disk),
+            Err(_) => Err(NoMemory),
+        }
     }
 }
 
@@ -35,5 +26,5 @@ impl MakesPairs<SureDisk> for EmptyPairs {
 pub fn empty_pairs(alloc: Global) -> Result<Vec<DiskPair<SureDisk>>, NoMemory>
     ensures { IfOk result (λ pairs. AreNew true sure_means pairs.items) }
 {
-    nine_pairs(alloc, &EmptyPairs)
+    nine_pairs(alloc, &SureDisks)
 }

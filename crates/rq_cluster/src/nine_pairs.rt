@@ -1,20 +1,35 @@
 //! Nine pairs of disks, one for each node that a script may name.
-ghost use Rattle.std.specs.Prelude.{IfOk};
+ghost use Rattle.std.specs.Prelude.{[], IfOk};
+ghost use Rattle.rq_outside.specs.Disk.{Only};
 ghost use Rattle.rq_cluster.specs.Standing.{IsNew, AreNew};
 
-use rq_outside::{Disk, DiskPair};
+use rq_outside::{Disk, DiskPair, FileNo};
 use rq_values::NoMemory;
 use std::alloc::Global;
 
-/// What makes the pair at a place, in which no log stands.
-pub(crate) trait MakesPairs<D: Disk> {
-    fn pair(&self, alloc: Global, place: usize) -> Result<DiskPair<D>, NoMemory>
-        ensures { IfOk result (λ pair. IsNew D.told D.means pair) };
+/// What makes the disks of the pair at each place, 0 to 8: each is empty, whatever a crash leaves.
+pub trait MakesDisks<D: Disk> {
+    fn disk(&self, alloc: Global, place: usize, file: FileNo) -> Result<D, NoMemory>
+        ensures { IfOk result (λ disk. Only [] (D.means disk).images) };
 }
 
-/// The pairs at the places 0 to 8.
+/// A pair of such disks.
+#[tactic(auto, using(crate::proofs::Emptiness::new_by))]
+fn new_pair<D: Disk + Drop, M: MakesDisks<D>>(
+    alloc: Global,
+    maker: &M,
+    place: usize,
+) -> Result<DiskPair<D>, NoMemory>
+    ensures { IfOk result (λ pair. IsNew D.told D.means pair) }
+{
+    let one = maker.disk(alloc, place, FileNo::One)?;
+    let two = maker.disk(alloc, place, FileNo::Two)?;
+    Ok(DiskPair::new(one, two))
+}
+
+/// New pairs at the places 0 to 8, of the disks that the maker makes. The error is want of memory.
 #[tactic(auto, using(crate::proofs::Emptiness::one_more_new))]
-pub(crate) fn nine_pairs<D: Disk + Drop, M: MakesPairs<D>>(
+pub fn nine_pairs<D: Disk + Drop, M: MakesDisks<D>>(
     alloc: Global,
     maker: &M,
 ) -> Result<Vec<DiskPair<D>>, NoMemory>
@@ -22,7 +37,7 @@ pub(crate) fn nine_pairs<D: Disk + Drop, M: MakesPairs<D>>(
 {
     let mut pairs = Vec::new(alloc);
     for place in 0..9 {
-        pairs.push(maker.pair(alloc, place)?)?;
+        pairs.push(new_pair(alloc, maker, place)?)?;
     }
     Ok(pairs)
 }

@@ -8,6 +8,3 @@ mod laws;
 pub use decoding::{TEXT_LIMIT, decode_execute};
 pub use error::CommandError;
 pub use laws::each_command_has_one_answer;
-
-#[cfg(test)]
-mod tests;

@@ -4,8 +4,6 @@
 #![tactic(auto)]
 
 mod bodies;
-#[cfg(test)]
-mod reply_tests;
 mod replying;
 
 pub use bodies::statements_of;

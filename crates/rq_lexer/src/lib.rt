@@ -11,6 +11,3 @@ mod words;
 pub use laws::{at_most_one_token_a_byte, tokens_are_read_as_spelled, tokens_in_order};
 pub use lexer::Lexer;
 pub use placed::Placed;
-
-#[cfg(test)]
-mod tests;

@@ -24,6 +24,3 @@ pub use pair::{Arm, DiskPair, FileNo};
 pub use sink::{Sink, SinkError};
 pub use source::Source;
 pub use word::Word;
-
-#[cfg(test)]
-mod tests;

@@ -7,8 +7,6 @@
 pub mod laws;
 mod saying;
 mod script;
-#[cfg(test)]
-mod tests;
 
 pub use saying::{
     write_all_pending, write_answer, write_answers, write_down, write_show, write_show_down,

@@ -15,8 +15,3 @@ pub use expressions::print_expr;
 pub use laws::canonical_text_is_read;
 pub use preparing::{each_text_is_prepared, prepare};
 pub use statements::print;
-
-#[cfg(test)]
-mod prepared_tests;
-#[cfg(test)]
-mod tests;

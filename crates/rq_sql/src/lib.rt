@@ -9,6 +9,3 @@ mod steps;
 pub use error::ReadError;
 pub use laws::each_text_has_one_answer;
 pub use reader::read;
-
-#[cfg(test)]
-mod tests;

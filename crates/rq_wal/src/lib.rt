@@ -22,6 +22,3 @@ pub use file::{Batch, WalFile};
 pub use frame::Frame;
 pub use laws::{current_logs_stand, logs_are_read_as_written};
 pub use opening::open;
-
-#[cfg(test)]
-mod tests;

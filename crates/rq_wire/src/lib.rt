@@ -14,6 +14,3 @@ pub use encoding::{encode_config, encode_entry};
 pub use entry::{Body, Entry};
 pub use error::{WireError, wire_error};
 pub use laws::entries_are_read_as_spelled;
-
-#[cfg(test)]
-mod tests;

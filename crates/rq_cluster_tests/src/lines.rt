@@ -1,5 +1,7 @@
-use super::*;
 use rq_engine::{Answer, Say};
+use rq_script::{
+    ScriptLine, script_line, write_all_pending, write_answers, write_down, write_show_down,
+};
 use rq_values::Id;
 use std::test::Fail;
 

@@ -1,5 +1,5 @@
 //! Texts and their refusals. rq_settle has a table of texts and the statements that they spell.
-use super::*;
+use rq_sql::{ReadError, read};
 use std::alloc::Global;
 use std::test::Fail;
 

@@ -1,5 +1,5 @@
 //! Texts and their tokens.
-use super::*;
+use rq_lexer::{Lexer, Placed};
 use rq_grammar::{Token, Word};
 use std::alloc::Global;
 use std::test::Fail;

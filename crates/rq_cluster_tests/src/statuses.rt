@@ -1,4 +1,4 @@
-use super::*;
+use rq_cluster::{cluster_main, empty_pairs};
 use rq_outside::{MemSink, MemSource, SureDraws, Word};
 use std::alloc::Global;
 use std::test::Fail;

@@ -1,4 +1,4 @@
-use super::*;
+use rq_command::{CommandError, decode_execute};
 use rq_engine::encode_execute;
 use std::alloc::Global;
 use std::test::Fail;

@@ -1,5 +1,5 @@
-use super::*;
 use rq_engine::{Res, Say};
+use rq_json::{statements_of, write_body};
 use rq_values::{Seq, Text, Value};
 use std::alloc::Global;
 use std::test::Fail;

@@ -1,13 +1,10 @@
 //! A line's text is written before the next line is done, and files are written at each event.
-ghost use Rattle.std.specs.Prelude.{◌<◌, length, true, [], IfOk};
-ghost use Rattle.rq_outside.specs.Disk.{Only};
+ghost use Rattle.std.specs.Prelude.{◌<◌, length, true};
 ghost use Rattle.rq_outside.specs.Memory.{journal_means};
 
-use super::*;
-use crate::memory_pairs::empty_disk;
-use crate::nine_pairs::{MakesPairs, nine_pairs};
+use rq_cluster::{MakesDisks, cluster_main, nine_pairs};
 use rq_outside::{
-    CrashDisk, Disk, DiskPair, Failed, Sink, SinkError, SureDisk, SureDraws, SureSource, Word,
+    CrashDisk, Disk, Failed, FileNo, Sink, SinkError, SureDisk, SureDraws, SureSource, Word,
 };
 use rq_values::NoMemory;
 use std::alloc::Global;
@@ -117,25 +114,28 @@ impl Sink for NotingSink<'_> {
     }
 }
 
-/// An empty disk that counts its syncs.
-fn counted<'a>(alloc: Global, syncs: &'a Cell<u64>) -> Result<CountedDisk<'a>, NoMemory>
-    ensures { IfOk result (λ disk. Only [] (journal_means disk.disk.journal 0).images) }
-{
-    let disk = empty_disk(alloc)?;
-    Ok(CountedDisk { disk, syncs })
-}
-
-/// Pairs of such disks.
+/// What makes such disks, empty.
 #[derive(Drop)]
-struct CountedPairs<'a> {
+struct CountedDisks<'a> {
     syncs: &'a Cell<u64>,
 }
 
-impl<'a> MakesPairs<CountedDisk<'a>> for CountedPairs<'a> {
-    fn pair(&self, alloc: Global, _place: usize) -> Result<DiskPair<CountedDisk<'a>>, NoMemory> {
-        let one = counted(alloc, self.syncs)?;
-        let two = counted(alloc, self.syncs)?;
-        Ok(DiskPair::new(one, two))
+impl<'a> MakesDisks<CountedDisk<'a>> for CountedDisks<'a> {
+    fn disk(
+        &self,
+        alloc: Global,
+        _place: usize,
+        _file: FileNo,
+    ) -> Result<CountedDisk<'a>, NoMemory> {
+        let mut disk = SureDisk::new(alloc, Vec::new(alloc))?;
+        disk.ready(0, 1)?;
+        match disk.sync() {
+            Ok(()) => Ok(CountedDisk {
+                disk,
+                syncs: self.syncs,
+            }),
+            Err(_) => Err(NoMemory),
+        }
     }
 }
 
@@ -158,7 +158,7 @@ fn order_of_calls(rt: HostRuntime) -> Result<(), Fail> {
         pieces: Vec::new(alloc),
         syncs: &syncs,
     };
-    let mut disks = nine_pairs(alloc, &CountedPairs { syncs: &syncs })
+    let mut disks = nine_pairs(alloc, &CountedDisks { syncs: &syncs })
         .ok()
         .ok_or("memory")?;
     let mut draws = SureDraws::new(Vec::new(alloc));

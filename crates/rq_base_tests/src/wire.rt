@@ -1,5 +1,7 @@
-use super::*;
 use rq_values::{Addr, Bytes, Id, Seq, TryCopy};
+use rq_wire::{
+    Body, Config, Entry, Member, WireError, decode_entry, encode_config, encode_entry, quorum,
+};
 use std::alloc::Global;
 use std::test::Fail;
 

@@ -1,4 +1,7 @@
-use super::*;
+use rq_values::{
+    Addr, Bytes, Id, Seq, Text, TryCopy, Value, ValueError, compare, decode, encode, read_text,
+    read_u32, read_u64,
+};
 use std::alloc::Global;
 use std::cmp::Ordering;
 use std::test::Fail;

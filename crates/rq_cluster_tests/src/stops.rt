@@ -1,46 +1,31 @@
 //! Stops within a write, starts, and disks that fail.
-ghost use Rattle.std.specs.Prelude.{[], IfOk};
-ghost use Rattle.rq_outside.specs.Disk.{Only};
-ghost use Rattle.rq_cluster.specs.EmptyPairs.{mem_means};
-
-use super::*;
-use crate::nine_pairs::{MakesPairs, nine_pairs};
-use rq_outside::{CrashDisk, DiskPair, MemDisk, SureDraws, SureSink, SureSource, Word};
+use rq_cluster::{MakesDisks, cluster_main, nine_pairs};
+use rq_outside::{CrashDisk, FileNo, MemDisk, SureDraws, SureSink, SureSource, Word};
 use rq_values::NoMemory;
 use std::alloc::Global;
 use std::test::Fail;
 
-/// Pairs of empty disks, of which those of the first fail at these calls.
+/// What makes empty disks, of which those of the first pair fail at these calls.
 #[derive(Drop)]
 struct Failing<'a> {
     one: &'a [u64],
     two: &'a [u64],
 }
 
-impl MakesPairs<MemDisk> for Failing<'_> {
-    #[tactic(auto, using(crate::proofs::Emptiness::empty_mem_is_new))]
-    fn pair(&self, alloc: Global, place: usize) -> Result<DiskPair<MemDisk>, NoMemory> {
-        let (one, two) = if place == 0 {
-            (self.one, self.two)
-        } else {
-            (&[][..], &[][..])
+impl MakesDisks<MemDisk> for Failing<'_> {
+    fn disk(&self, alloc: Global, place: usize, file: FileNo) -> Result<MemDisk, NoMemory> {
+        let fails = match (place, file) {
+            (0, FileNo::One) => self.one,
+            (0, FileNo::Two) => self.two,
+            _ => &[],
         };
-        let one = disk(alloc, one)?;
-        let two = disk(alloc, two)?;
-        Ok(DiskPair::new(one, two))
-    }
-}
-
-/// An empty disk that fails at these calls, whatever a crash leaves.
-fn disk(alloc: Global, fails: &[u64]) -> Result<MemDisk, NoMemory>
-    ensures { IfOk result (λ disk. Only [] (mem_means disk).images) }
-{
-    let mut disk = MemDisk::new(alloc, Vec::new(alloc), fails.to_vec(alloc)?)?;
-    disk.crash(0);
-    if disk.bytes().is_empty() {
-        Ok(disk)
-    } else {
-        Err(NoMemory)
+        let mut disk = MemDisk::new(alloc, Vec::new(alloc), fails.to_vec(alloc)?)?;
+        disk.crash(0);
+        if disk.bytes().is_empty() {
+            Ok(disk)
+        } else {
+            Err(NoMemory)
+        }
     }
 }
 

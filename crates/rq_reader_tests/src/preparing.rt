@@ -1,5 +1,5 @@
 //! Statements read, printed, spelled and run.
-use crate::preparing::prepare;
+use rq_settle::prepare;
 use rq_engine::{Item, Res, Tables, encode_execute, print};
 use rq_values::{Seq, Text, Value};
 use std::alloc::Global;

@@ -1,5 +1,5 @@
 //! Statements that are read, printed and read again.
-use super::*;
+use rq_canonical::read_printed;
 use rq_grammar::Stmt;
 use rq_settle::print;
 use rq_sql::read;

@@ -1,5 +1,5 @@
 use Rattle.std.proofs.Common.{length}
-use Rattle.rq_lexer.proofs.tests.tokens.Given as goal
+use Rattle.rq_reader_tests.proofs.tokens.tokens.Given as goal
 
 abbrev pub decreases-loop-shown : goal.decreases-loop-shown
 decreases-loop-shown l = length l.lexer

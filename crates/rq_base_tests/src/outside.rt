@@ -1,6 +1,10 @@
 ghost use Rattle.std.specs.Prelude.{◌<◌};
 
-use super::*;
+use rq_outside::{
+    Clock, Disk, DiskPair, Draws, Failed, FileNo, MemDisk, MemSink, MemSource, ScriptClock,
+    ScriptDraws, Sink, SinkError, Source, SureClock, SureDisk, SureDraws, SureSink, SureSource,
+    Word,
+};
 use std::alloc::Global;
 use std::test::Fail;
 

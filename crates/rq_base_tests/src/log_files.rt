@@ -1,9 +1,9 @@
 ghost use Rattle.std.specs.Prelude.{IfOk};
 ghost use Rattle.rq_wal.specs.Stored.{IsBase};
 
-use super::*;
 use rq_outside::{Disk, DiskPair, FileNo, MemDisk};
 use rq_values::{Addr, Bytes, Id, Seq};
+use rq_wal::{Base, Frame, OpenError, Stored, WalFile, open};
 use rq_wire::{Body, Config, Entry, Member};
 use std::alloc::Global;
 use std::test::Fail;

@@ -1,0 +1,11 @@
+//! The vectors of values, entries, log files and fakes, and a call of each function of theirs that takes memory.
+#![tactic(auto)]
+
+#[cfg(test)]
+mod log_files;
+#[cfg(test)]
+mod outside;
+#[cfg(test)]
+mod values;
+#[cfg(test)]
+mod wire;
