@@ -24,26 +24,34 @@ const ELECTED: &[u8] = b"\x01RQWAL\x01\x01\0\0\0\0\0\0\0\x59\0\0\0\0\0\0\0\
 \x01\x01\x0f\0\0\0\x01\0\0\0\0\0\0\0\x01\x02\0\0\0n1\
 \x01\x02\x15\0\0\0\x01\0\0\0\0\0\0\0\x01\0\0\0\x01\0\0\0\0\0\0\0\0\0";
 
+fn addr(alloc: Global, bytes: &[u8]) -> Result<Addr, Fail> {
+    Ok(
+        Addr::new(alloc, bytes)
+            .ok()
+            .ok_or("memory")?
+            .ok_or("address")?,
+    )
+}
+
+fn members(alloc: Global) -> Result<Seq<Member>, Fail> {
+    let http = addr(alloc, b"n1:4001")?;
+    let raft = addr(alloc, b"n1:4002")?;
+    let mut members = Seq::new(alloc);
+    members
+        .push(Member {
+            id: Id::new(b"n1").ok_or("id")?,
+            voter: true,
+            http,
+            raft,
+        })
+        .ok()
+        .ok_or("memory")?;
+    Ok(members)
+}
+
 fn first_base(alloc: Global) -> Result<Base, Fail>
     ensures { IfOk result (λ base. IsBase base) }
 {
-    let n1 = Id::new(b"n1").ok_or("id")?;
-    let http = Addr::new(alloc, b"n1:4001")
-        .ok()
-        .ok_or("memory")?
-        .ok_or("address")?;
-    let raft = Addr::new(alloc, b"n1:4002")
-        .ok()
-        .ok_or("memory")?
-        .ok_or("address")?;
-    let mut members = Seq::new(alloc);
-    let member = Member {
-        id: n1,
-        voter: true,
-        http,
-        raft,
-    };
-    members.push(member).ok().ok_or("memory")?;
     let state = Bytes::new(alloc, b"\x01\0\0\0\0\0\0\0\0\x01\0\0\0\x02\0\0\0n1")
         .ok()
         .ok_or("memory")?;
@@ -53,15 +61,9 @@ fn first_base(alloc: Global) -> Result<Base, Fail>
         boot: 0,
         index: 0,
         last_term: 0,
-        config: Config::new(members),
+        config: Config::new(members(alloc)?),
         state,
     })
-}
-
-fn boot_frame(alloc: Global) -> Result<Vec<Frame>, Fail> {
-    let mut frames = Vec::new(alloc);
-    frames.push(Frame::Boot { boot: 1 })?;
-    Ok(frames)
 }
 
 fn election_frames(alloc: Global) -> Result<Vec<Frame>, Fail> {
@@ -87,6 +89,23 @@ fn content(alloc: Global, pair: &mut DiskPair<MemDisk>) -> Result<Vec<u8>, Fail>
     Ok(bytes)
 }
 
+// A pair of which file one has these bytes and file two none.
+fn pair_of(alloc: Global, bytes: &[u8]) -> Result<DiskPair<MemDisk>, Fail> {
+    let one = MemDisk::new(alloc, bytes.to_vec(alloc)?, Vec::new(alloc));
+    let two = MemDisk::new(alloc, Vec::new(alloc), Vec::new(alloc));
+    Ok(DiskPair::new(one.ok().ok_or("memory")?, two.ok().ok_or("memory")?))
+}
+
+fn opened_pair(
+    alloc: Global,
+    disks: &mut DiskPair<MemDisk>,
+) -> Result<Result<(WalFile, Stored), OpenError>, Fail> {
+    let first = first_base(alloc)?;
+    let opened = open(alloc, disks, &first);
+    drop(first);
+    Ok(opened)
+}
+
 // Opens the pair, and writes the frames in two batches.
 fn begun<D: Disk>(
     alloc: Global,
@@ -97,57 +116,63 @@ fn begun<D: Disk>(
 ) -> Result<WalFile, OpenError>
     requires { IsBase first.now }
 {
-    let (mut wal, _stored) = open(alloc, disks, first)?;
+    let (mut wal, stored) = open(alloc, disks, first)?;
+    drop(stored);
     let batch = wal.ready(alloc, disks, frames)?;
     let mut wal = wal.write(disks, batch)?;
     let batch = wal.ready(alloc, disks, more)?;
-    let wal = wal.write(disks, batch)?;
-    Ok(wal)
+    Ok(wal.write(disks, batch)?)
 }
 
 // The file of n1 after it was opened and started, and after these frames more; with the place of its gate.
-fn file_of_n1(alloc: Global, more: &[Frame]) -> Result<(Vec<u8>, u64), Fail> {
-    let one = MemDisk::new(alloc, Vec::new(alloc), Vec::new(alloc))
-        .ok()
-        .ok_or("memory")?;
-    let two = MemDisk::new(alloc, Vec::new(alloc), Vec::new(alloc))
-        .ok()
-        .ok_or("memory")?;
-    let mut pair = DiskPair::new(one, two);
+fn file_of_n1(
+    alloc: Global,
+    disks: &mut DiskPair<MemDisk>,
+    more: &[Frame],
+) -> Result<(Vec<u8>, u64), Fail> {
     let first = first_base(alloc)?;
-    let boot = boot_frame(alloc)?;
-    let wal = begun(alloc, &mut pair, &first, &boot, more)
-        .ok()
-        .ok_or("begun")?;
-    Ok((content(alloc, &mut pair)?, wal.end()))
+    let boot = [Frame::Boot { boot: 1 }];
+    let wal = begun(alloc, disks, &first, &boot, more);
+    drop((first, boot));
+    let gate = wal.ok().ok_or("begun")?.end();
+    Ok((content(alloc, disks)?, gate))
+}
+
+// Whether the file of n1 has these bytes and this gate after it was opened and started, and after these frames more.
+fn file_is(alloc: Global, more: &[Frame], bytes: &[u8], gate: u64) -> Result<bool, Fail> {
+    let mut pair = pair_of(alloc, b"")?;
+    let found = file_of_n1(alloc, &mut pair, more);
+    drop(pair);
+    let (file, end) = found?;
+    let is_same = file.as_slice() == bytes;
+    drop(file);
+    Ok(is_same && end == gate)
 }
 
 #[test]
 fn the_file_of_n1_byte_for_byte(rt: HostRuntime) -> Result<(), Fail> {
     let alloc = rt.alloc();
-    let (started, gate) = file_of_n1(alloc, &[])?;
-    assert_eq!(rt; started.as_slice(), STARTED);
-    assert_eq!(rt; (started.len(), gate), (127, 126));
+    assert!(rt; file_is(alloc, &[], STARTED, 126)?);
     let election = election_frames(alloc)?;
-    let (elected, gate) = file_of_n1(alloc, &election)?;
-    assert_eq!(rt; elected.as_slice(), ELECTED);
-    assert_eq!(rt; (elected.len(), gate), (175, 174));
+    let is = file_is(alloc, &election, ELECTED, 174);
+    drop(election);
+    assert!(rt; is?);
+    assert_eq!(rt; (STARTED.len(), ELECTED.len()), (127, 175));
     Ok(())
 }
 
 // What opening a pair answers, of which file one has these bytes and file two none: the boot that is stored and the place
 // of the last gate.
 fn opened(alloc: Global, bytes: &[u8]) -> Result<Result<(u64, u64), OpenError>, Fail> {
-    let one = MemDisk::new(alloc, Vec::from_slice(alloc, bytes)?, Vec::new(alloc))
-        .ok()
-        .ok_or("memory")?;
-    let two = MemDisk::new(alloc, Vec::new(alloc), Vec::new(alloc))
-        .ok()
-        .ok_or("memory")?;
-    let mut pair = DiskPair::new(one, two);
-    let first = first_base(alloc)?;
-    match open(alloc, &mut pair, &first) {
-        Ok((wal, stored)) => Ok(Ok((stored.boot, wal.end()))),
+    let mut pair = pair_of(alloc, bytes)?;
+    let opened = opened_pair(alloc, &mut pair);
+    drop(pair);
+    match opened? {
+        Ok((wal, stored)) => {
+            let boot = stored.boot;
+            drop(stored);
+            Ok(Ok((boot, wal.end())))
+        }
         Err(error) => Ok(Err(error)),
     }
 }
@@ -170,11 +195,13 @@ fn a_damaged_file(rt: HostRuntime) -> Result<(), Fail> {
         (6, 7, Err(OpenError::Version(7))),
         (0, 0, Ok((0, 112))),
     ] {
-        let mut bytes = Vec::from_slice(alloc, STARTED)?;
+        let mut bytes = STARTED.to_vec(alloc)?;
         if let Some(at) = bytes.get_mut(place) {
             *at = byte;
         }
-        assert_eq!(rt; opened(alloc, &bytes)?, answer);
+        let found = opened(alloc, &bytes);
+        drop(bytes);
+        assert_eq!(rt; found?, answer);
     }
     Ok(())
 }
@@ -182,10 +209,8 @@ fn a_damaged_file(rt: HostRuntime) -> Result<(), Fail> {
 #[test]
 fn a_file_cut_at_each_length(rt: HostRuntime) -> Result<(), Fail> {
     let alloc = rt.alloc();
-    let mut bytes = Vec::from_slice(alloc, STARTED)?;
-    assert_eq!(rt; opened(alloc, &bytes)?, Ok((1, 126)));
-    for len in (0..127usize).rev() {
-        bytes.truncate(len);
+    assert_eq!(rt; opened(alloc, STARTED)?, Ok((1, 126)));
+    for len in 0..STARTED.len() {
         let answer = if len < 23 {
             Ok((0, 112))
         } else {
@@ -195,7 +220,7 @@ fn a_file_cut_at_each_length(rt: HostRuntime) -> Result<(), Fail> {
                 byte: None,
             })
         };
-        assert_eq!(rt; opened(alloc, &bytes)?, answer);
+        assert_eq!(rt; opened(alloc, &STARTED[..len])?, answer);
     }
     Ok(())
 }

@@ -8,6 +8,11 @@ use rq_outside::{
 use std::alloc::Global;
 use std::test::Fail;
 
+fn mem_disk(alloc: Global, bytes: &[u8], fails: &[u64]) -> Result<MemDisk, Fail> {
+    let disk = MemDisk::new(alloc, bytes.to_vec(alloc)?, fails.to_vec(alloc)?);
+    Ok(disk.ok().ok_or("memory")?)
+}
+
 // A pair that is armed with so many calls, and then written to: five bytes in file one and two in file two, each synced.
 // It is crashed afterwards. Beside it stands whether the last call passed, and whether the pair was struck before the crash.
 fn stopped(alloc: Global, calls: u64, pick: u8) -> Result<(DiskPair<MemDisk>, bool, bool), Fail>
@@ -53,22 +58,41 @@ fn expected(calls: u64, pick: u8) -> (&'static [u8], &'static [u8]) {
     }
 }
 
+fn holds(
+    alloc: Global,
+    pair: &mut DiskPair<MemDisk>,
+    file: FileNo,
+    bytes: &[u8],
+) -> Result<bool, Fail> {
+    let found = content(alloc, pair, file)?;
+    let is_same = found.as_slice() == bytes;
+    drop(found);
+    Ok(is_same)
+}
+
+fn files_hold(
+    alloc: Global,
+    pair: &mut DiskPair<MemDisk>,
+    calls: u64,
+    pick: u8,
+) -> Result<bool, Fail> {
+    let (one, two) = expected(calls, pick);
+    Ok(holds(alloc, pair, FileNo::One, one)? && holds(alloc, pair, FileNo::Two, two)?)
+}
+
 #[test]
 fn an_armed_pair_stops_and_crashes_by_each_pick(rt: HostRuntime) -> Result<(), Fail> {
     for calls in 0..5 {
         for pick in 0..4 {
             let (mut pair, passed, struck) = stopped(rt.alloc(), calls, pick)?;
-            assert_eq!(rt; (passed, struck), (calls == 4, calls < 4));
-            let (one, two) = expected(calls, pick);
+            let is_held = files_hold(rt.alloc(), &mut pair, calls, pick);
+            let is_struck_again = pair.struck();
+            drop(pair);
+            assert!(rt; is_held?);
             assert_eq!(rt;
-                content(rt.alloc(), &mut pair, FileNo::One)?.as_slice(),
-                one
+                (passed, struck, is_struck_again),
+                (calls == 4, calls < 4, false)
             );
-            assert_eq!(rt;
-                content(rt.alloc(), &mut pair, FileNo::Two)?.as_slice(),
-                two
-            );
-            assert_eq!(rt; pair.struck(), false);
         }
     }
     Ok(())
@@ -107,65 +131,101 @@ fn four_words<R: Draws>(draws: &mut R) -> [Result<u64, Failed>; 4] {
 }
 
 #[test]
-fn fakes_fail_at_the_stated_call_or_never(rt: HostRuntime) -> Result<(), Fail> {
+fn sources(rt: HostRuntime) -> Result<(), Fail> {
     let alloc = rt.alloc();
-    let second = vec![in alloc; 2u64]?;
-    let abc = b"abc".to_vec(alloc)?;
+    let mut source = MemSource::new(b"abc".to_vec(alloc)?, vec![in alloc; 2u64]?);
+    let reads = four_reads(&mut source);
+    drop(source);
+    assert_eq!(rt; reads, [Ok(2), Err(Failed), Ok(1), Ok(0)]);
+    let mut source = SureSource::new(b"abc".to_vec(alloc)?);
+    let reads = four_reads(&mut source);
+    drop(source);
+    assert_eq!(rt; reads, [Ok(2), Ok(1), Ok(0), Ok(0)]);
+    Ok(())
+}
 
-    assert_eq!(rt;
-        four_reads(&mut MemSource::new(abc.clone()?, second.clone()?)),
-        [Ok(2), Err(Failed), Ok(1), Ok(0)]
-    );
-    assert_eq!(rt;
-        four_reads(&mut SureSource::new(abc.clone()?)),
-        [Ok(2), Ok(1), Ok(0), Ok(0)]
-    );
+#[test]
+fn sinks(rt: HostRuntime) -> Result<(), Fail> {
+    let alloc = rt.alloc();
+    let mut sink = MemSink::new(b"abc".to_vec(alloc)?, vec![in alloc; 2u64]?);
+    let writes = three_writes(&mut sink);
+    let is_taken = sink.bytes() == b"abcabef".as_slice();
+    drop(sink);
+    assert_eq!(rt; writes, [Ok(2), Err(SinkError::Failed), Ok(2)]);
+    assert!(rt; is_taken);
+    let mut sink = SureSink::new(b"abc".to_vec(alloc)?);
+    let writes = three_writes(&mut sink);
+    let is_taken = sink.bytes() == b"abcabcdef".as_slice();
+    drop(sink);
+    assert_eq!(rt; writes, [Ok(2), Ok(2), Ok(2)]);
+    assert!(rt; is_taken);
+    Ok(())
+}
 
-    let mut sink = MemSink::new(abc.clone()?, second.clone()?);
-    assert_eq!(rt;
-        three_writes(&mut sink),
-        [Ok(2), Err(SinkError::Failed), Ok(2)]
-    );
-    assert_eq!(rt; sink.bytes(), b"abcabef".as_slice());
-    let mut sink = SureSink::new(abc.clone()?);
-    assert_eq!(rt; three_writes(&mut sink), [Ok(2), Ok(2), Ok(2)]);
-    assert_eq!(rt; sink.bytes(), b"abcabcdef".as_slice());
-
-    let mut disk = MemDisk::new(alloc, abc.clone()?, second.clone()?)
+#[test]
+fn disks(rt: HostRuntime) -> Result<(), Fail> {
+    let alloc = rt.alloc();
+    let mut disk = mem_disk(alloc, b"abc", &[2])?;
+    let lengths = three_lengths(&mut disk);
+    let (is_kept, fault) = (disk.bytes() == b"abc".as_slice(), disk.fault());
+    drop(disk);
+    assert_eq!(rt; lengths, [Ok(3), Err(Failed), Ok(3)]);
+    assert_eq!(rt; (is_kept, fault), (true, Some(())));
+    let mut disk = SureDisk::new(alloc, b"abc".to_vec(alloc)?)
         .ok()
         .ok_or("memory")?;
-    assert_eq!(rt; three_lengths(&mut disk), [Ok(3), Err(Failed), Ok(3)]);
-    assert_eq!(rt; (disk.bytes(), disk.fault()), (abc.as_slice(), Some(())));
-    let mut disk = SureDisk::new(alloc, abc.clone()?).ok().ok_or("memory")?;
-    assert_eq!(rt; three_lengths(&mut disk), [Ok(3), Ok(3), Ok(3)]);
-    assert_eq!(rt; (disk.bytes(), disk.fault()), (abc.as_slice(), None));
+    let lengths = three_lengths(&mut disk);
+    let (is_kept, fault) = (disk.bytes() == b"abc".as_slice(), disk.fault());
+    drop(disk);
+    assert_eq!(rt; lengths, [Ok(3), Ok(3), Ok(3)]);
+    assert_eq!(rt; (is_kept, fault), (true, None));
+    Ok(())
+}
 
-    let numbers = vec![in alloc; 7u64, 9]?;
-    let mut clock = ScriptClock::new(numbers.clone()?, second.clone()?);
-    assert_eq!(rt; clock.fault(), None);
+#[test]
+fn clocks(rt: HostRuntime) -> Result<(), Fail> {
+    let alloc = rt.alloc();
+    let mut clock = ScriptClock::new(vec![in alloc; 7u64, 9]?, vec![in alloc; 2u64]?);
+    let before = clock.fault();
+    let moments = four_moments(&mut clock);
+    let after = clock.fault();
+    drop(clock);
+    assert_eq!(rt; (before, after), (None, Some(())));
+    assert_eq!(rt; moments, [Ok(7), Err(Failed), Ok(9), Err(Failed)]);
+    let mut clock = SureClock::new(vec![in alloc; 7u64, 9]?);
+    let moments = four_moments(&mut clock);
+    drop(clock);
+    assert_eq!(rt; moments, [Ok(7), Ok(9), Ok(9), Ok(9)]);
+    Ok(())
+}
+
+fn sure_words(numbers: Vec<u64>) -> [Result<u64, Failed>; 4] {
+    let mut draws = SureDraws::new(numbers);
+    let words = four_words(&mut draws);
+    drop(draws);
+    words
+}
+
+#[test]
+fn draws(rt: HostRuntime) -> Result<(), Fail> {
+    let alloc = rt.alloc();
+    let mut draws = ScriptDraws::new(vec![in alloc; 7u64, 9]?, vec![in alloc; 2u64]?);
+    let words = four_words(&mut draws);
+    drop(draws);
+    assert_eq!(rt; words, [Ok(7), Err(Failed), Ok(9), Err(Failed)]);
     assert_eq!(rt;
-        four_moments(&mut clock),
-        [Ok(7), Err(Failed), Ok(9), Err(Failed)]
-    );
-    assert_eq!(rt; clock.fault(), Some(()));
-    assert_eq!(rt;
-        four_moments(&mut SureClock::new(numbers.clone()?)),
+        sure_words(vec![in alloc; 7u64, 9]?),
         [Ok(7), Ok(9), Ok(9), Ok(9)]
     );
-    assert_eq!(rt;
-        four_words(&mut ScriptDraws::new(numbers.clone()?, second)),
-        [Ok(7), Err(Failed), Ok(9), Err(Failed)]
-    );
-    assert_eq!(rt;
-        four_words(&mut SureDraws::new(numbers)),
-        [Ok(7), Ok(9), Ok(9), Ok(9)]
-    );
-    assert_eq!(rt;
-        four_words(&mut SureDraws::new(Vec::new(alloc))),
-        [Ok(0), Ok(0), Ok(0), Ok(0)]
-    );
+    assert_eq!(rt; sure_words(Vec::new(alloc)), [Ok(0), Ok(0), Ok(0), Ok(0)]);
+    Ok(())
+}
 
-    let word = Word::new(alloc, b"cluster").ok().ok_or("memory")?;
-    assert_eq!(rt; word.bytes(), b"cluster".as_slice());
+#[test]
+fn words(rt: HostRuntime) -> Result<(), Fail> {
+    let word = Word::new(rt.alloc(), b"cluster").ok().ok_or("memory")?;
+    let is_same = word.bytes() == b"cluster".as_slice();
+    drop(word);
+    assert!(rt; is_same);
     Ok(())
 }

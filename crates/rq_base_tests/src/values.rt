@@ -11,31 +11,46 @@ fn text(alloc: Global, bytes: &[u8]) -> Result<Value, Fail> {
     Ok(Value::Text(text))
 }
 
-/// Each value is spelled as stated, is read again, and equals its copy.
+/// Whether the value is spelled so, and read from that.
+fn is_spelled(alloc: Global, value: &Value, bytes: &[u8]) -> Result<bool, Fail> {
+    let mut spelled = Vec::new(alloc);
+    let is_same = encode(value, &mut spelled).is_ok() && spelled.as_slice() == bytes;
+    drop(spelled);
+    let (read, len) = decode(alloc, bytes, 0, 5).ok().ok_or("refused")?;
+    let is_read = read == *value && len == bytes.len();
+    drop(read);
+    Ok(is_same && is_read)
+}
+
+fn text_is_spelled(alloc: Global, text: &[u8], bytes: &[u8]) -> Result<bool, Fail> {
+    let value = self::text(alloc, text)?;
+    let is = is_spelled(alloc, &value, bytes);
+    drop(value);
+    is
+}
+
+fn blob_is_spelled(alloc: Global, blob: &[u8], bytes: &[u8]) -> Result<bool, Fail> {
+    let value = Value::Blob(Bytes::new(alloc, blob)?);
+    let is = is_spelled(alloc, &value, bytes);
+    drop(value);
+    is
+}
+
+/// Each value is spelled as stated, and is read again.
 #[test]
 fn values_and_their_bytes(rt: HostRuntime) -> Result<(), Fail> {
     let alloc = rt.alloc();
-    let fiona = text(alloc, b"fiona")?;
-    let blob = Value::Blob(Bytes::new(alloc, b"\0\xff")?);
-    for (value, bytes) in [
-        (&Value::Null, b"\x00".as_slice()),
-        (
-            &Value::Int(-1),
-            b"\x01\xff\xff\xff\xff\xff\xff\xff\xff".as_slice(),
-        ),
-        (&Value::Int(258), b"\x01\x02\x01\0\0\0\0\0\0".as_slice()),
-        (&fiona, b"\x02\x05\0\0\0fiona".as_slice()),
-        (&blob, b"\x03\x02\0\0\0\0\xff".as_slice()),
-    ] {
-        let mut spelled = Vec::new(alloc);
-        encode(value, &mut spelled)?;
-        assert_eq!(rt; spelled.as_slice(), bytes);
-        assert_eq!(rt;
-            decode(alloc, bytes, 0, 5),
-            Ok((value.copy()?, bytes.len()))
-        );
-    }
+    let minus_one = b"\x01\xff\xff\xff\xff\xff\xff\xff\xff";
+    assert!(rt; is_spelled(alloc, &Value::Null, b"\x00")?);
+    assert!(rt; is_spelled(alloc, &Value::Int(-1), minus_one)?);
+    assert!(rt; is_spelled(alloc, &Value::Int(258), b"\x01\x02\x01\0\0\0\0\0\0")?);
+    assert!(rt; text_is_spelled(alloc, b"fiona", b"\x02\x05\0\0\0fiona")?);
+    assert!(rt; blob_is_spelled(alloc, b"\0\xff", b"\x03\x02\0\0\0\0\xff")?);
     Ok(())
+}
+
+fn refusal(alloc: Global, bytes: &[u8]) -> Option<ValueError> {
+    decode(alloc, bytes, 0, 5).err()
 }
 
 /// What isn't the spelling of a value is refused at its place.
@@ -50,34 +65,49 @@ fn faults_and_their_places(rt: HostRuntime) -> Result<(), Fail> {
         (b"\x02\x02\0\0\0a\0".as_slice(), ValueError::NotText(1)),
         (b"\x02\x01\0\0\0\xff".as_slice(), ValueError::NotText(1)),
     ] {
-        assert_eq!(rt; decode(alloc, bytes, 0, 5), Err(error));
+        assert_eq!(rt; refusal(alloc, bytes), Some(error));
     }
     let fields = b"\x01\0\0\0\x02\0\0\0\0\0\0\0\x02\0\0\0hi";
     assert_eq!(rt; read_u32(fields, 0), Ok((1, 4)));
     assert_eq!(rt; read_u64(fields, 4), Ok((2, 12)));
-    let hi = Text::new(alloc, b"hi")?.ok_or("no text")?;
-    assert_eq!(rt; read_text(alloc, fields, 12, 2), Ok((hi, 18)));
+    let (hi, end) = read_text(alloc, fields, 12, 2).ok().ok_or("refused")?;
+    let is_hi = hi.bytes() == b"hi".as_slice();
+    drop(hi);
+    assert_eq!(rt; (is_hi, end), (true, 18));
     Ok(())
 }
 
-/// The order of values, and which bytes are names.
+fn rise(values: &[&Value]) -> bool {
+    for (low, high) in values.iter().zip(values.iter().skip(1)) {
+        if compare(low, high) != Ordering::Less {
+            return false;
+        }
+    }
+    true
+}
+
 #[test]
-fn order_and_names(rt: HostRuntime) -> Result<(), Fail> {
+fn order(rt: HostRuntime) -> Result<(), Fail> {
     let alloc = rt.alloc();
     let a = text(alloc, b"a")?;
     let ab = text(alloc, b"ab")?;
     let blob = Value::Blob(Bytes::new(alloc, b"")?);
-    let rising = [
+    let is_rising = rise(&[
         &Value::Null,
         &Value::Int(-7),
         &Value::Int(3),
         &a,
         &ab,
         &blob,
-    ];
-    for i in 1..rising.len() {
-        assert_eq!(rt; compare(rising[i - 1], rising[i]), Ordering::Less);
-    }
+    ]);
+    drop((a, ab, blob));
+    assert!(rt; is_rising);
+    Ok(())
+}
+
+#[test]
+fn names(rt: HostRuntime) -> Result<(), Fail> {
+    let alloc = rt.alloc();
     for (name, is) in [
         (b"n1".as_slice(), true),
         (b"1n".as_slice(), false),
@@ -91,9 +121,23 @@ fn order_and_names(rt: HostRuntime) -> Result<(), Fail> {
     assert!(rt; Id::new(b"n10") < Id::new(b"n2"));
     assert!(rt; Addr::new(alloc, b"n1:4001")?.is_some());
     assert!(rt; Addr::new(alloc, b"n1 4001")?.is_none());
-    let mut list = Seq::new(alloc);
-    list.push(a)?;
-    list.push(ab)?;
-    assert_eq!(rt; list.copy()?.as_slice(), list.as_slice());
+    Ok(())
+}
+
+fn is_copied(list: &Seq<Value>) -> Result<bool, Fail> {
+    let copy = list.copy()?;
+    let is_same = copy.as_slice() == list.as_slice();
+    drop(copy);
+    Ok(is_same)
+}
+
+#[test]
+fn copies(rt: HostRuntime) -> Result<(), Fail> {
+    let mut list = Seq::new(rt.alloc());
+    list.push(text(rt.alloc(), b"a")?)?;
+    list.push(Value::Int(7))?;
+    let is_same = is_copied(&list);
+    drop(list);
+    assert!(rt; is_same?);
     Ok(())
 }

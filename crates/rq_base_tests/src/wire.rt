@@ -5,55 +5,93 @@ use rq_wire::{
 use std::alloc::Global;
 use std::test::Fail;
 
+fn addr(alloc: Global, bytes: &[u8]) -> Result<Addr, Fail> {
+    Ok(Addr::new(alloc, bytes)?.ok_or("no address")?)
+}
+
 /// The member `n1` of a first configuration.
 fn first_config(alloc: Global) -> Result<Config, Fail> {
+    let http = addr(alloc, b"n1:4001")?;
+    let raft = addr(alloc, b"n1:4002")?;
     let mut members = Seq::new(alloc);
     members.push(Member {
         id: Id::new(b"n1").ok_or("no id")?,
         voter: true,
-        http: Addr::new(alloc, b"n1:4001")?.ok_or("no address")?,
-        raft: Addr::new(alloc, b"n1:4002")?.ok_or("no address")?,
+        http,
+        raft,
     })?;
     Ok(Config::new(members))
+}
+
+const CONFIG: &[u8] = b"\x01\0\0\0\x02\0\0\0n1\x01\x07\0\0\0n1:4001\x07\0\0\0n1:4002";
+
+#[test]
+fn a_configuration_and_its_bytes(rt: HostRuntime) -> Result<(), Fail> {
+    let alloc = rt.alloc();
+    let config = first_config(alloc)?;
+    let mut spelled = Vec::new(alloc);
+    let is_spelled = encode_config(&config, &mut spelled).is_ok() && spelled.as_slice() == CONFIG;
+    let votes = quorum(&config);
+    drop((config, spelled));
+    assert_eq!(rt; (is_spelled, votes), (true, 1));
+    Ok(())
+}
+
+/// Whether the entry is spelled so, and read from that.
+fn is_spelled(alloc: Global, entry: &Entry, bytes: &[u8]) -> Result<bool, Fail> {
+    let mut spelled = Vec::new(alloc);
+    let is_same = encode_entry(entry, &mut spelled).is_ok() && spelled.as_slice() == bytes;
+    drop(spelled);
+    let read = decode_entry(alloc, bytes).ok().ok_or("refused")?;
+    let is_read = read == *entry;
+    drop(read);
+    Ok(is_same && is_read)
+}
+
+fn body_is_spelled(alloc: Global, term: u64, body: Body, bytes: &[u8]) -> Result<bool, Fail> {
+    let entry = Entry { term, body };
+    let is = is_spelled(alloc, &entry, bytes);
+    drop(entry);
+    is
 }
 
 /// Entries are spelled as stated, and are read again.
 #[test]
 fn entries_and_their_bytes(rt: HostRuntime) -> Result<(), Fail> {
     let alloc = rt.alloc();
-    let config = first_config(alloc)?;
-    let mut spelled = Vec::new(alloc);
-    encode_config(&config, &mut spelled)?;
-    assert_eq!(rt;
-        spelled.as_slice(),
-        b"\x01\0\0\0\x02\0\0\0n1\x01\x07\0\0\0n1:4001\x07\0\0\0n1:4002".as_slice()
-    );
-    assert_eq!(rt; quorum(&config), 1);
-    let entries = [
-        Entry {
-            term: 1,
-            body: Body::NoOp,
-        },
-        Entry {
-            term: 258,
-            body: Body::Data(Bytes::new(alloc, b"\x09")?),
-        },
-        Entry {
-            term: 0,
-            body: Body::Config(config),
-        },
-    ];
-    for (entry, bytes) in entries.iter().zip([
-        b"\x01\0\0\0\0\0\0\0\0".as_slice(),
-        b"\x02\x01\0\0\0\0\0\0\x02\x01\0\0\0\x09".as_slice(),
-        b"\0\0\0\0\0\0\0\0\x01\x01\0\0\0\x02\0\0\0n1\x01\x07\0\0\0n1:4001\x07\0\0\0n1:4002".as_slice(),
-    ]) {
-        let mut spelled = Vec::new(alloc);
-        encode_entry(entry, &mut spelled)?;
-        assert_eq!(rt; spelled.as_slice(), bytes);
-        assert_eq!(rt; decode_entry(alloc, bytes), Ok(entry.copy()?));
-    }
+    let mut bytes = b"\0\0\0\0\0\0\0\0\x01".to_vec(alloc)?;
+    bytes.extend_from_slice(CONFIG)?;
+    let is = body_is_spelled(alloc, 0, Body::Config(first_config(alloc)?), &bytes);
+    drop(bytes);
+    assert!(rt; is?);
+    assert!(rt; body_is_spelled(alloc, 1, Body::NoOp, b"\x01\0\0\0\0\0\0\0\0")?);
+    let data = Body::Data(Bytes::new(alloc, b"\x09")?);
+    let bytes = b"\x02\x01\0\0\0\0\0\0\x02\x01\0\0\0\x09";
+    assert!(rt; body_is_spelled(alloc, 258, data, bytes)?);
     Ok(())
+}
+
+fn is_copied(entry: &Entry) -> Result<bool, Fail> {
+    let copy = entry.copy()?;
+    let is_same = copy == *entry;
+    drop(copy);
+    Ok(is_same)
+}
+
+#[test]
+fn copies(rt: HostRuntime) -> Result<(), Fail> {
+    let entry = Entry {
+        term: 2,
+        body: Body::Config(first_config(rt.alloc())?),
+    };
+    let is_same = is_copied(&entry);
+    drop(entry);
+    assert!(rt; is_same?);
+    Ok(())
+}
+
+fn refusal(alloc: Global, bytes: &[u8]) -> Option<WireError> {
+    decode_entry(alloc, bytes).err()
 }
 
 /// What isn't the spelling of an entry is refused at its place.
@@ -77,7 +115,7 @@ fn faults_and_their_places(rt: HostRuntime) -> Result<(), Fail> {
             WireError::Order(29),
         ),
     ] {
-        assert_eq!(rt; decode_entry(alloc, bytes), Err(error));
+        assert_eq!(rt; refusal(alloc, bytes), Some(error));
     }
     Ok(())
 }

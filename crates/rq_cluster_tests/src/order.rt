@@ -2,10 +2,9 @@
 ghost use Rattle.std.specs.Prelude.{◌<◌, length, true};
 ghost use Rattle.rq_outside.specs.Memory.{journal_means};
 
-use rq_cluster::{MakesDisks, cluster_main, nine_pairs};
-use rq_outside::{
-    CrashDisk, Disk, Failed, FileNo, Sink, SinkError, SureDisk, SureDraws, SureSource, Word,
-};
+use crate::calling::status_of;
+use rq_cluster::{MakesDisks, nine_pairs};
+use rq_outside::{CrashDisk, Disk, Failed, FileNo, Sink, SinkError, SureDisk, SureSource};
 use rq_values::NoMemory;
 use std::alloc::Global;
 use std::cell::Cell;
@@ -144,34 +143,38 @@ ask n1 POST /db/execute [\"CREATE TABLE foo (id INTEGER PRIMARY KEY, name TEXT, 
 ask n1 POST /db/execute [\"INSERT INTO foo(name, age) VALUES('fiona', 20)\"]\napply n1\n\
 ask n1 POST /db/query?level=none [\"SELECT * FROM foo\"]\n";
 
+/// The status, and the syncs before the start and the first answer.
+fn ended(
+    alloc: Global,
+    source: &mut SureSource,
+    sink: &mut NotingSink,
+) -> Result<(u8, Option<u64>, Option<u64>), Fail> {
+    let mut disks = nine_pairs(alloc, &CountedDisks { syncs: sink.syncs })
+        .ok()
+        .ok_or("memory")?;
+    let status = status_of(alloc, &[b"cluster"], source, sink, &mut disks);
+    drop(disks);
+    Ok((
+        status?,
+        sink.syncs_before(b"up n1"),
+        sink.syncs_before(b"answer 1"),
+    ))
+}
+
 // Two syncs of the opening, four of the first base and two of the boot come before `up`; two for each of the election's
 // two frames and for each list come before the first answer.
 #[test]
 fn order_of_calls(rt: HostRuntime) -> Result<(), Fail> {
     let alloc = rt.alloc();
     let syncs = Cell::new(0);
-    let mut words = Vec::new(alloc);
-    words.push(Word::new(alloc, b"cluster").ok().ok_or("memory")?)?;
     let mut source = SureSource::new(SCRIPT.to_vec(alloc)?);
     let mut sink = NotingSink {
         text: Vec::new(alloc),
         pieces: Vec::new(alloc),
         syncs: &syncs,
     };
-    let mut disks = nine_pairs(alloc, &CountedDisks { syncs: &syncs })
-        .ok()
-        .ok_or("memory")?;
-    let mut draws = SureDraws::new(Vec::new(alloc));
-    let status = cluster_main(
-        alloc,
-        &words,
-        &mut source,
-        &mut sink,
-        &mut disks,
-        &mut draws,
-    );
-    assert_eq!(rt; status, 0);
-    assert_eq!(rt; sink.syncs_before(b"up n1"), Some(8));
-    assert_eq!(rt; sink.syncs_before(b"answer 1"), Some(16));
+    let ended = ended(alloc, &mut source, &mut sink);
+    drop((source, sink));
+    assert_eq!(rt; ended?, (0, Some(8), Some(16)));
     Ok(())
 }

@@ -1,5 +1,6 @@
-use rq_cluster::{cluster_main, empty_pairs};
-use rq_outside::{MemSink, MemSource, SureDraws, Word};
+use crate::calling::status_of;
+use rq_cluster::empty_pairs;
+use rq_outside::{MemSink, MemSource};
 use std::alloc::Global;
 use std::test::Fail;
 
@@ -16,28 +17,21 @@ struct Case<'a> {
     text: &'a [u8],
 }
 
-// Whether the call answers and writes what it must.
-fn is_right(alloc: Global, case: &Case) -> Result<bool, Fail> {
-    let mut words = Vec::new(alloc);
-    for word in case.words {
-        words
-            .push(Word::new(alloc, word).ok().ok_or("memory")?)
-            .ok()
-            .ok_or("memory")?;
-    }
-    let mut source = MemSource::new(case.script.to_vec(alloc)?, case.reads.to_vec(alloc)?);
+fn writes(alloc: Global, source: &mut MemSource, case: &Case) -> Result<bool, Fail> {
     let mut sink = MemSink::new(Vec::new(alloc), case.writes.to_vec(alloc)?);
     let mut disks = empty_pairs(alloc).ok().ok_or("memory")?;
-    let mut draws = SureDraws::new(Vec::new(alloc));
-    let status = cluster_main(
-        alloc,
-        &words,
-        &mut source,
-        &mut sink,
-        &mut disks,
-        &mut draws,
-    );
-    Ok(status == case.status && sink.bytes() == case.text)
+    let status = status_of(alloc, case.words, source, &mut sink, &mut disks);
+    let is_written = sink.bytes() == case.text;
+    drop((sink, disks));
+    Ok(status? == case.status && is_written)
+}
+
+// Whether the call answers and writes what it must.
+fn is_right(alloc: Global, case: &Case) -> Result<bool, Fail> {
+    let mut source = MemSource::new(case.script.to_vec(alloc)?, case.reads.to_vec(alloc)?);
+    let is_right = writes(alloc, &mut source, case);
+    drop(source);
+    is_right
 }
 
 // The place of the first case that isn't as it must be.
@@ -160,7 +154,9 @@ fn faults(rt: HostRuntime) -> Result<(), Fail> {
         ),
         faulty(b"cluster n1\n", &[1], &[1], 5, b""),
     ];
-    assert_eq!(rt; first_wrong_case(alloc, &cases)?, None);
+    let wrong = first_wrong_case(alloc, &cases);
+    drop((late, early));
+    assert_eq!(rt; wrong?, None);
     Ok(())
 }
 
@@ -184,7 +180,9 @@ fn longest_line(rt: HostRuntime) -> Result<(), Fail> {
         plain(&[b"cluster"], &last_fits, 3, b"stopped: line 2\n"),
         plain(&[b"cluster"], &last_over, 3, b"stopped: line 1\n"),
     ];
-    assert_eq!(rt; first_wrong_case(alloc, &cases)?, None);
+    let wrong = first_wrong_case(alloc, &cases);
+    drop((fits, over, last_fits, last_over));
+    assert_eq!(rt; wrong?, None);
     Ok(())
 }
 
@@ -260,6 +258,8 @@ fn each_write_fails(rt: HostRuntime) -> Result<(), Fail> {
         faulty(FIRST, &[], &[3], 5, ANSWERS),
         faulty(FIRST, &[], &[4], 0, &all),
     ];
-    assert_eq!(rt; first_wrong_case(rt.alloc(), &cases)?, None);
+    let wrong = first_wrong_case(rt.alloc(), &cases);
+    drop(all);
+    assert_eq!(rt; wrong?, None);
     Ok(())
 }

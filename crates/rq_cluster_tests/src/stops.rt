@@ -1,6 +1,7 @@
 //! Stops within a write, starts, and disks that fail.
-use rq_cluster::{MakesDisks, cluster_main, nine_pairs};
-use rq_outside::{CrashDisk, FileNo, MemDisk, SureDraws, SureSink, SureSource, Word};
+use crate::calling::status_of;
+use rq_cluster::{MakesDisks, nine_pairs};
+use rq_outside::{CrashDisk, FileNo, MemDisk, SureSink, SureSource};
 use rq_values::NoMemory;
 use std::alloc::Global;
 use std::test::Fail;
@@ -29,6 +30,21 @@ impl MakesDisks<MemDisk> for Failing<'_> {
     }
 }
 
+fn writes(
+    alloc: Global,
+    source: &mut SureSource,
+    failing: &Failing,
+    status: u8,
+    text: &[u8],
+) -> Result<bool, Fail> {
+    let mut disks = nine_pairs(alloc, failing).ok().ok_or("memory")?;
+    let mut sink = SureSink::new(Vec::new(alloc));
+    let found = status_of(alloc, &[b"cluster"], source, &mut sink, &mut disks);
+    let is_written = sink.bytes() == text;
+    drop((sink, disks));
+    Ok(found? == status && is_written)
+}
+
 /// Whether the script ends with this status and writes this text.
 fn gives(
     alloc: Global,
@@ -38,23 +54,10 @@ fn gives(
     status: u8,
     text: &[u8],
 ) -> Result<bool, Fail> {
-    let mut words = Vec::new(alloc);
-    words.push(Word::new(alloc, b"cluster").ok().ok_or("memory")?)?;
     let mut source = SureSource::new(script.to_vec(alloc)?);
-    let mut sink = SureSink::new(Vec::new(alloc));
-    let mut disks = nine_pairs(alloc, &Failing { one, two })
-        .ok()
-        .ok_or("memory")?;
-    let mut draws = SureDraws::new(Vec::new(alloc));
-    let found = cluster_main(
-        alloc,
-        &words,
-        &mut source,
-        &mut sink,
-        &mut disks,
-        &mut draws,
-    );
-    Ok(found == status && sink.bytes() == text)
+    let is = writes(alloc, &mut source, &Failing { one, two }, status, text);
+    drop(source);
+    is
 }
 
 /// A stop after `calls` changing calls with this pick, in the write of one entry.
@@ -78,14 +81,16 @@ const RUNNING: &[u8] = b"up n1 boot 1 term 0 last 0\nstopped: line 5\n";
 fn a_stop_within_a_write_leaves_the_entry_or_not(rt: HostRuntime) -> Result<(), Fail> {
     for calls in 0..5 {
         for pick in 0..4 {
-            let script = stop_within(rt.alloc(), calls, pick)?;
             let (status, text) = match calls {
                 0 | 1 => (0, BEFORE),
                 2 | 3 if pick == 1 || pick == 2 => (0, AFTER),
                 2 | 3 => (0, BEFORE),
                 _ => (3, RUNNING),
             };
-            assert!(rt; gives(rt.alloc(), &script, &[], &[], status, text)?);
+            let script = stop_within(rt.alloc(), calls, pick)?;
+            let is = gives(rt.alloc(), &script, &[], &[], status, text);
+            drop(script);
+            assert!(rt; is?);
         }
     }
     Ok(())
@@ -107,6 +112,21 @@ struct Later<'a> {
     lines: &'a str,
     status: u8,
     text: &'a str,
+}
+
+fn follows(alloc: Global, case: &Later) -> Result<bool, Fail> {
+    let script = format!(in alloc; "{FIRST}{}", case.lines)?;
+    let text = format!(in alloc; "{FIRST_ANSWERS}{}", case.text)?;
+    let is = gives(
+        alloc,
+        script.as_bytes(),
+        &[],
+        &[],
+        case.status,
+        text.as_bytes(),
+    );
+    drop((script, text));
+    is
 }
 
 #[test]
@@ -168,18 +188,7 @@ fn nodes_stop_and_start_again(rt: HostRuntime) -> Result<(), Fail> {
         },
     ];
     for case in cases {
-        let script = format!(in alloc; "{FIRST}{}", case.lines)?;
-        let text = format!(in alloc; "{FIRST_ANSWERS}{}", case.text)?;
-        assert!(rt;
-            gives(
-                alloc,
-                script.as_bytes(),
-                &[],
-                &[],
-                case.status,
-                text.as_bytes()
-            )?
-        );
+        assert!(rt; follows(alloc, &case)?);
     }
     Ok(())
 }

@@ -271,7 +271,10 @@ impl Stack {
         }
         match self.pop() {
             Some(Frame::Low { negated, left }) => Some((negated, left)),
-            _ => None,
+            other => {
+                drop(other);
+                None
+            }
         }
     }
 

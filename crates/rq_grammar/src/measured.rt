@@ -1,6 +1,6 @@
 //! Expressions beside their depth, which contracts see as the expressions alone. A depth counts up to 101.
 
-ghost use Rattle.std.specs.Prelude.{◌≡◌, [], ◌∷◌, ◌++◌, None, Some, suc, min, IfOk, OnOk};
+ghost use Rattle.std.specs.Prelude.{◌≡◌, [], ◌∷◌, ◌++◌, None, Some, Ok, suc, min, IfOk, OnOk};
 ghost use Rattle.rq_grammar.specs.declared.expr.Expr.TheVariants as e;
 ghost use Rattle.rq_grammar.specs.Depth as d;
 
@@ -107,6 +107,34 @@ pub(crate) fn above(levels: u8) -> u8
     ensures { result ≡ min 101 (suc levels) }
 {
     levels.saturating_add(1).min(101)
+}
+
+fn boxed(alloc: Global, expr: Expr) -> Result<Boxed<Expr>, NoMemory>
+    ensures { IfOk result (λ b. b ≡ expr) }
+{
+    Ok(Boxed::new(alloc, expr)?)
+}
+
+/// Both, if both are there.
+fn both<A: Drop, B: Drop>(
+    one: Result<A, NoMemory>,
+    two: Result<B, NoMemory>,
+) -> Result<(A, B), NoMemory>
+    ensures { IfOk result (λ pair. (one ≡ Ok pair.0) × (two ≡ Ok pair.1)) }
+{
+    match one {
+        Ok(one) => match two {
+            Ok(two) => Ok((one, two)),
+            Err(error) => {
+                drop(one);
+                Err(error)
+            }
+        },
+        Err(error) => {
+            drop(two);
+            Err(error)
+        }
+    }
 }
 
 impl Measured {
@@ -224,12 +252,9 @@ impl Measured {
         ensures { IfOk result (λ x. x ≡ e.Binary op left right) }
     {
         let levels = above(left.levels.max(right.levels));
+        let (left, right) = both(boxed(alloc, left.expr), boxed(alloc, right.expr))?;
         Ok(Measured {
-            expr: Expr::Binary {
-                op,
-                left: Boxed::new(alloc, left.expr)?,
-                right: Boxed::new(alloc, right.expr)?,
-            },
+            expr: Expr::Binary { op, left, right },
             levels,
         })
     }
@@ -263,12 +288,14 @@ impl Measured {
         ensures { IfOk result (λ x. x ≡ e.Between negated left low high) }
     {
         let levels = above(left.levels.max(low.levels.max(high.levels)));
+        let halves = both(boxed(alloc, left.expr), boxed(alloc, low.expr));
+        let ((left, low), high) = both(halves, boxed(alloc, high.expr))?;
         Ok(Measured {
             expr: Expr::Between {
                 negated,
-                left: Boxed::new(alloc, left.expr)?,
-                low: Boxed::new(alloc, low.expr)?,
-                high: Boxed::new(alloc, high.expr)?,
+                left,
+                low,
+                high,
             },
             levels,
         })

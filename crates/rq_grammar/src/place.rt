@@ -109,8 +109,13 @@ impl MeasuredQuery {
     pub fn with_all(mut self) -> Result<MeasuredQuery, NoMemory>
         ensures { IfOk result (λ q. q ≡ spec.add_result self item.All) }
     {
-        self.query.select.results.push(ResultItem::All)?;
-        Ok(self)
+        match self.query.select.results.push(ResultItem::All) {
+            Ok(()) => Ok(self),
+            Err(_) => {
+                drop(self);
+                Err(NoMemory)
+            }
+        }
     }
 
     /// With one more result.
@@ -124,12 +129,21 @@ impl MeasuredQuery {
     {
         let levels = expr.levels();
         let expr = expr.into_inner();
-        self.query
+        match self
+            .query
             .select
             .results
-            .push(ResultItem::Value { expr, alias })?;
-        self.results = self.results.max(levels);
-        Ok(self)
+            .push(ResultItem::Value { expr, alias })
+        {
+            Ok(()) => {
+                self.results = self.results.max(levels);
+                Ok(self)
+            }
+            Err(_) => {
+                drop(self);
+                Err(NoMemory)
+            }
+        }
     }
 
     pub fn with_table(mut self, table: Text) -> MeasuredQuery
@@ -143,7 +157,7 @@ impl MeasuredQuery {
         ensures { result ≡ spec.with_filter self expr }
     {
         self.filter = expr.levels();
-        self.query.select.filter = Some(expr.into_inner());
+        drop(self.query.select.filter.replace(expr.into_inner()));
         self
     }
 
@@ -154,19 +168,23 @@ impl MeasuredQuery {
     {
         let levels = expr.levels();
         let expr = expr.into_inner();
-        self.query
-            .select
-            .order
-            .push(OrderTerm { expr, descending })?;
-        self.order = self.order.max(levels);
-        Ok(self)
+        match self.query.select.order.push(OrderTerm { expr, descending }) {
+            Ok(()) => {
+                self.order = self.order.max(levels);
+                Ok(self)
+            }
+            Err(_) => {
+                drop(self);
+                Err(NoMemory)
+            }
+        }
     }
 
     pub fn with_limit(mut self, expr: Measured) -> MeasuredQuery
         ensures { result ≡ spec.with_limit self expr }
     {
         self.limit = expr.levels();
-        self.query.select.limit = Some(expr.into_inner());
+        drop(self.query.select.limit.replace(expr.into_inner()));
         self
     }
 
@@ -174,7 +192,7 @@ impl MeasuredQuery {
         ensures { result ≡ spec.with_offset self expr }
     {
         self.offset = expr.levels();
-        self.query.select.offset = Some(expr.into_inner());
+        drop(self.query.select.offset.replace(expr.into_inner()));
         self
     }
 

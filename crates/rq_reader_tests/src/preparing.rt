@@ -1,17 +1,22 @@
 //! Statements read, printed, spelled and run.
-use rq_settle::prepare;
 use rq_engine::{Item, Res, Tables, encode_execute, print};
-use rq_values::{Seq, Text, Value};
+use rq_settle::prepare;
+use rq_values::{NoMemory, Seq, Text, Value};
 use std::alloc::Global;
 use std::test::Fail;
 
 /// The canonical text of what a text spells, or the error's text.
 fn canonical(alloc: Global, text: &str) -> Result<String, Fail> {
+    let item = prepare(alloc, text.as_bytes())?;
     let mut bytes = Vec::new(alloc);
-    match prepare(alloc, text.as_bytes())? {
-        Item::Run(statement) => print(&statement, &mut bytes)?,
-        Item::Fail(error) => bytes.extend_from_slice(error.bytes())?,
-    }
+    let done = match &item {
+        Item::Run(statement) => print(statement, &mut bytes),
+        Item::Fail(error) => bytes
+            .extend_from_slice(error.bytes())
+            .map_err(NoMemory::from),
+    };
+    drop(item);
+    done?;
     Ok(String::from_utf8_lossy(alloc, &bytes)?)
 }
 
@@ -87,10 +92,14 @@ fn select_from(alloc: Global, letters: usize) -> Result<String, Fail> {
 #[test]
 fn canonical_text_at_its_limit(rt: HostRuntime) -> Result<(), Fail> {
     let alloc = rt.alloc();
-    let longest = canonical(alloc, &select_from(alloc, 4_194_288)?)?;
-    assert_eq!(rt; longest.len(), 4_194_304);
-    let longer = canonical(alloc, &select_from(alloc, 4_194_289)?)?;
-    assert_eq!(rt; longer.as_str(), "statement too large: 4194305");
+    let text = select_from(alloc, 4_194_288)?;
+    let longest = canonical(alloc, &text);
+    drop(text);
+    assert_eq!(rt; longest?.len(), 4_194_304);
+    let text = select_from(alloc, 4_194_289)?;
+    let longer = canonical(alloc, &text);
+    drop(text);
+    assert_eq!(rt; longer?.as_str(), "statement too large: 4194305");
     Ok(())
 }
 
@@ -166,14 +175,24 @@ fn shown(alloc: Global, res: &Res) -> Result<String, Fail> {
 
 /// The answer to a statement, or to a query behind a question mark.
 fn answer(alloc: Global, tables: &mut Tables, text: &str) -> Result<String, Fail> {
-    let results = match text.strip_prefix('?') {
-        Some(query) => tables.query(alloc, &[prepare(alloc, query.as_bytes())?])?,
-        None => tables.apply(alloc, &[prepare(alloc, text.as_bytes())?])?,
+    let (query, text) = match text.strip_prefix('?') {
+        Some(query) => (true, query),
+        None => (false, text),
     };
-    match results.as_slice() {
+    let items = [prepare(alloc, text.as_bytes())?];
+    let results = if query {
+        tables.query(alloc, &items)
+    } else {
+        tables.apply(alloc, &items)
+    };
+    drop(items);
+    let results = results?;
+    let shown = match results.as_slice() {
         [res] => shown(alloc, res),
         _ => Err("not one result".into()),
-    }
+    };
+    drop(results);
+    shown
 }
 
 /// Statements, one after the other over the same tables, and their answers.

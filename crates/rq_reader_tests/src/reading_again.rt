@@ -22,10 +22,18 @@ const CASES: [(&str, &str); 3] = [
     ),
 ];
 
-fn printed(alloc: Global, stmt: &Stmt) -> Result<String, Fail> {
+fn is_printed(alloc: Global, stmt: &Stmt, canonical: &str) -> bool {
     let mut bytes = Vec::new(alloc);
-    print(stmt, &mut bytes)?;
-    Ok(String::from_utf8_lossy(alloc, &bytes)?)
+    let is_same = print(stmt, &mut bytes).is_ok() && bytes.as_slice() == canonical.as_bytes();
+    drop(bytes);
+    is_same
+}
+
+fn is_read_again(alloc: Global, stmt: &Stmt, canonical: &str) -> Result<bool, Fail> {
+    let again = read_printed(alloc, stmt)?;
+    let is_same = is_printed(alloc, &again, canonical);
+    drop(again);
+    Ok(is_same)
 }
 
 #[test]
@@ -33,9 +41,10 @@ fn statements_that_are_read_again(rt: HostRuntime) -> Result<(), Fail> {
     let alloc = rt.alloc();
     for (text, canonical) in &CASES {
         let stmt = read(alloc, text.as_bytes())?;
-        assert_eq!(rt; printed(alloc, &stmt)?.as_str(), *canonical);
-        let again = read_printed(alloc, &stmt)?;
-        assert_eq!(rt; printed(alloc, &again)?.as_str(), *canonical);
+        let is_printed = is_printed(alloc, &stmt, canonical);
+        let is_again = is_read_again(alloc, &stmt, canonical);
+        drop(stmt);
+        assert_eq!(rt; (is_printed, is_again?), (true, true));
     }
     Ok(())
 }

@@ -1,6 +1,6 @@
 //! Texts and their tokens.
-use rq_lexer::{Lexer, Placed};
 use rq_grammar::{Token, Word};
+use rq_lexer::{Lexer, Placed};
 use std::alloc::Global;
 use std::test::Fail;
 
@@ -65,14 +65,24 @@ fn token_text(alloc: Global, token: &Token) -> Result<String, Fail> {
     }
 }
 
+/// A token with its place, behind the others.
+fn push_token(alloc: Global, placed: &Placed, shown: &mut String) -> Result<(), Fail> {
+    let between = if shown.is_empty() { "" } else { " & " };
+    let token = token_text(alloc, &placed.token)?;
+    let (start, end) = (placed.start, placed.end);
+    let text = format!(in alloc; "{between}{start}-{end} {token}");
+    drop(token);
+    Ok(shown.push_str(&text?)?)
+}
+
 /// The tokens of a text with their places, one after the other.
 fn tokens(alloc: Global, text: &[u8]) -> Result<String, Fail> {
     let mut lexer = Lexer::new(text);
     let mut shown = String::new(alloc);
-    while let Some(Placed { token, start, end }) = lexer.next_token(alloc)? {
-        let between = if shown.is_empty() { "" } else { " & " };
-        let token = token_text(alloc, &token)?;
-        shown.push_str(&format!(in alloc; "{between}{start}-{end} {token}")?)?;
+    while let Some(placed) = lexer.next_token(alloc)? {
+        let pushed = push_token(alloc, &placed, &mut shown);
+        drop(placed);
+        pushed?;
     }
     Ok(shown)
 }
@@ -186,6 +196,7 @@ fn a_long_text(rt: HostRuntime) -> Result<(), Fail> {
     let mut last = 0;
     while let Some(placed) = lexer.next_token(alloc)? {
         last = placed.end;
+        drop(placed);
     }
     assert_eq!(rt; last, 1 << 20);
     Ok(())

@@ -63,11 +63,12 @@ fn canonical_len(alloc: Global, statement: &Statement) -> Result<usize, NoMemory
 fn item_of_built(alloc: Global, statement: Statement) -> Result<Item, NoMemory>
     ensures { IfOk result (λ item. item ≡ spec.item_of_built statement) }
 {
-    let len = canonical_len(alloc, &statement)?;
-    if len <= MOST_BYTES {
-        Ok(Item::Run(statement))
-    } else {
-        Ok(Item::Fail(too_large(alloc, len)?))
+    match canonical_len(alloc, &statement) {
+        Ok(len) if len <= MOST_BYTES => Ok(Item::Run(statement)),
+        len => {
+            drop(statement);
+            Ok(Item::Fail(too_large(alloc, len?)?))
+        }
     }
 }
 
@@ -87,7 +88,11 @@ pub fn prepare(alloc: Global, text: &[u8]) -> Result<Item, NoMemory>
     ensures { IfOk result (λ item. spec.IsPrepared text.now item) }
 {
     match read(alloc, text) {
-        Ok(stmt) => item_of(alloc, &stmt),
+        Ok(stmt) => {
+            let item = item_of(alloc, &stmt);
+            drop(stmt);
+            item
+        }
         Err(error) => Ok(Item::Fail(error_text(alloc, text, error)?)),
     }
 }

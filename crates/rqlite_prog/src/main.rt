@@ -3,6 +3,9 @@
 //! `rqlite cluster` runs the script of its standard input on disks in memory: docs/SCRIPT.md.
 #![tactic(auto)]
 
+ghost use Rattle.std.specs.Prelude.{IfOk};
+ghost use Rattle.rq_cluster.specs.Play.{IsStatus};
+
 use command_line::words_of;
 use random_words::RandomWords;
 use rq_cluster::{cluster_main, empty_pairs};
@@ -26,7 +29,9 @@ fn main(rt: HostRuntime) -> ExitCode {
     }
 }
 
-fn run(rt: &HostRuntime) -> Result<u8, NoMemory> {
+fn run(rt: &HostRuntime) -> Result<u8, NoMemory>
+    ensures { IfOk result (λ status. IsStatus status) }
+{
     let alloc = rt.alloc();
     let words = words_of(rt, alloc)?;
     let mut disks = empty_pairs(alloc)?;

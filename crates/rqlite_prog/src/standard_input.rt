@@ -1,4 +1,6 @@
 //! Standard input as a source.
+ghost use Rattle.std.specs.Prelude.{◌≡◌};
+
 use rq_outside::{Failed, Source};
 use std::io::{Read, Stdin};
 
@@ -13,7 +15,10 @@ pub struct StandardInput {
 }
 
 impl StandardInput {
-    pub fn new(rt: &HostRuntime) -> StandardInput {
+    /// Of which no read has failed.
+    pub fn new(rt: &HostRuntime) -> StandardInput
+        ensures { result.faults ≡ 0 }
+    {
         StandardInput {
             reader: rt.stdin(),
             faults: 0,

@@ -1,4 +1,6 @@
 //! Standard output as a sink.
+ghost use Rattle.std.specs.Prelude.{◌≡◌};
+
 use rq_outside::{Sink, SinkError};
 use std::io::{Stdout, Write};
 
@@ -10,7 +12,10 @@ pub struct StandardOutput {
 }
 
 impl StandardOutput {
-    pub fn new(rt: &HostRuntime) -> StandardOutput {
+    /// Of which no write has failed.
+    pub fn new(rt: &HostRuntime) -> StandardOutput
+        ensures { result.faults ≡ 0 }
+    {
         StandardOutput {
             writer: rt.stdout(),
             faults: 0,
