@@ -9,7 +9,7 @@ mod giving;
 mod host;
 mod line_error;
 mod memory_pairs;
-mod nine_pairs;
+mod new_pairs;
 mod preparing;
 mod progress;
 mod reading_lines;
@@ -19,6 +19,6 @@ mod words;
 mod world;
 
 pub use memory_pairs::empty_pairs;
-pub use nine_pairs::{MakesDisks, nine_pairs};
+pub use new_pairs::{MakesDisks, nine_pairs};
 pub use rq_script::laws;
 pub use running::cluster_main;

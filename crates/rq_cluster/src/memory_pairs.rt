@@ -3,7 +3,7 @@ ghost use Rattle.std.specs.Prelude.{true, IfOk};
 ghost use Rattle.rq_cluster.specs.Standing.{AreNew};
 ghost use Rattle.rq_cluster.specs.EmptyPairs.{sure_means};
 
-use crate::nine_pairs::{MakesDisks, nine_pairs};
+use crate::new_pairs::{MakesDisks, nine_pairs};
 use rq_outside::{Disk, DiskPair, FileNo, SureDisk};
 use rq_values::NoMemory;
 use std::alloc::Global;
