@@ -14,7 +14,6 @@ pub trait MakesDisks<D: Disk> {
 }
 
 /// A pair of such disks.
-#[tactic(auto, using(crate::proofs::Emptiness::new_by))]
 fn new_pair<D: Disk + Drop, M: MakesDisks<D>>(
     alloc: Global,
     maker: &M,
