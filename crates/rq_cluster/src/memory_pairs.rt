@@ -1,5 +1,6 @@
 //! Pairs of disks for a script in memory.
-ghost use Rattle.std.specs.Prelude.{true, IfOk};
+ghost use Rattle.std.specs.Prelude.{true, [], IfOk};
+ghost use Rattle.rq_outside.specs.Disk.{Only};
 ghost use Rattle.rq_cluster.specs.Standing.{AreNew};
 ghost use Rattle.rq_cluster.specs.EmptyPairs.{sure_means};
 
@@ -12,6 +13,8 @@ use std::alloc::Global;
 struct SureDisks;
 
 impl MakesDisks<SureDisk> for SureDisks {
+    ghost made = { λ _ _ _ disk. Only [] (sure_means disk).images };
+
     fn disk(&self, alloc: Global, _place: usize, _file: FileNo) -> Result<SureDisk, NoMemory> {
         let mut disk = SureDisk::new(alloc, Vec::new(alloc))?;
         disk.ready(0, 1)?;

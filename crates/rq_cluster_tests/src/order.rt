@@ -1,5 +1,6 @@
 //! A line's text is written before the next line is done, and files are written at each event.
-ghost use Rattle.std.specs.Prelude.{◌<◌, length, true};
+ghost use Rattle.std.specs.Prelude.{◌<◌, [], length, true};
+ghost use Rattle.rq_outside.specs.Disk.{Only};
 ghost use Rattle.rq_outside.specs.Memory.{journal_means};
 
 use crate::calling::status_of;
@@ -120,6 +121,8 @@ struct CountedDisks<'a> {
 }
 
 impl<'a> MakesDisks<CountedDisk<'a>> for CountedDisks<'a> {
+    ghost made = { λ _ _ _ disk. Only [] (journal_means disk.disk.journal 0).images };
+
     fn disk(
         &self,
         alloc: Global,

@@ -1,4 +1,8 @@
 //! Stops within a write, starts, and disks that fail.
+ghost use Rattle.std.specs.Prelude.{[]};
+ghost use Rattle.rq_outside.specs.Disk.{Only};
+ghost use Rattle.rq_outside.specs.Memory.{journal_means};
+
 use crate::calling::status_of;
 use rq_cluster::{MakesDisks, nine_pairs};
 use rq_outside::{CrashDisk, FileNo, MemDisk, SureSink, SureSource};
@@ -14,6 +18,8 @@ struct Failing<'a> {
 }
 
 impl MakesDisks<MemDisk> for Failing<'_> {
+    ghost made = { λ _ _ _ disk. Only [] (journal_means disk.journal disk.faults.count).images };
+
     fn disk(&self, alloc: Global, place: usize, file: FileNo) -> Result<MemDisk, NoMemory> {
         let fails = match (place, file) {
             (0, FileNo::One) => self.one,
