@@ -41,86 +41,101 @@ fn read_as(text: &[u8]) -> Reading {
     }
 }
 
-/// A text, and what it must be read as.
-#[derive(Clone, Copy)]
-struct Case<'a> {
-    text: &'a [u8],
-    reading: Reading,
-}
-
 // The place of the first text that isn't read as it must be.
-fn first_wrong_case(cases: &[Case]) -> Option<usize> {
-    for (place, case) in cases.iter().enumerate() {
-        if read_as(case.text) != case.reading {
+fn first_wrong_case(cases: &[(&[u8], Reading)]) -> Option<usize> {
+    for (place, (text, reading)) in cases.iter().enumerate() {
+        if read_as(text) != *reading {
             return Some(place);
         }
     }
     None
 }
 
-fn is(text: &[u8], reading: Reading) -> Case<'_> {
-    Case { text, reading }
-}
-
 fn within(calls: u64, pick: u8) -> Reading {
     Reading::StopWithin { calls, pick }
 }
 
+/// Texts, and what each must be read as.
+const LINES: [(&[u8], Reading); 27] = [
+    (b"stop n1", Reading::Stop),
+    (b"stop n1 0 3", Reading::StopWithin { calls: 0, pick: 3 }),
+    (b"stop n1 10 0", Reading::StopWithin { calls: 10, pick: 0 }),
+    (
+        b"stop n1 18446744073709551614 1",
+        Reading::StopWithin {
+            calls: u64::MAX - 1,
+            pick: 1,
+        },
+    ),
+    (
+        b"stop n1 18446744073709551616 1",
+        Reading::StopWithin {
+            calls: u64::MAX,
+            pick: 1,
+        },
+    ),
+    (
+        b"stop n1 99999999999999999999999 2",
+        Reading::StopWithin {
+            calls: u64::MAX,
+            pick: 2,
+        },
+    ),
+    (b"stop n1 01 0", Reading::NoLine),
+    (b"stop n1 00 0", Reading::NoLine),
+    (b"stop n1 1 4", Reading::NoLine),
+    (b"stop n1 1 00", Reading::NoLine),
+    (b"stop n1 1 ", Reading::NoLine),
+    (b"stop n1 1", Reading::NoLine),
+    (b"stop n1 ", Reading::NoLine),
+    (b"stop n1 -1 2", Reading::NoLine),
+    (b"stop n1 +1 2", Reading::NoLine),
+    (b"stop n1  1 2", Reading::NoLine),
+    (b"stop n1 1  2", Reading::NoLine),
+    (b"stop n1 1 2 ", Reading::NoLine),
+    (b"stop Node", Reading::NoLine),
+    (b"stop Node 1 2", Reading::NoLine),
+    (b"stop ", Reading::NoLine),
+    (b"stop", Reading::NoLine),
+    (b"start n1", Reading::Start),
+    (b"start n1 ", Reading::NoLine),
+    (b"show n1", Reading::Show),
+    (b"show n1 ", Reading::NoLine),
+    (b"shown1", Reading::NoLine),
+];
+
 #[test]
 fn lines(rt: HostRuntime) -> Result<(), Fail> {
-    let cases = [
-        is(b"stop n1", Reading::Stop),
-        is(b"stop n1 0 3", within(0, 3)),
-        is(b"stop n1 10 0", within(10, 0)),
-        is(b"stop n1 18446744073709551614 1", within(u64::MAX - 1, 1)),
-        is(b"stop n1 18446744073709551616 1", within(u64::MAX, 1)),
-        is(b"stop n1 99999999999999999999999 2", within(u64::MAX, 2)),
-        is(b"stop n1 01 0", Reading::NoLine),
-        is(b"stop n1 00 0", Reading::NoLine),
-        is(b"stop n1 1 4", Reading::NoLine),
-        is(b"stop n1 1 00", Reading::NoLine),
-        is(b"stop n1 1 ", Reading::NoLine),
-        is(b"stop n1 1", Reading::NoLine),
-        is(b"stop n1 ", Reading::NoLine),
-        is(b"stop n1 -1 2", Reading::NoLine),
-        is(b"stop n1 +1 2", Reading::NoLine),
-        is(b"stop n1  1 2", Reading::NoLine),
-        is(b"stop n1 1  2", Reading::NoLine),
-        is(b"stop n1 1 2 ", Reading::NoLine),
-        is(b"stop Node", Reading::NoLine),
-        is(b"stop Node 1 2", Reading::NoLine),
-        is(b"stop ", Reading::NoLine),
-        is(b"stop", Reading::NoLine),
-        is(b"start n1", Reading::Start),
-        is(b"start n1 ", Reading::NoLine),
-        is(b"show n1", Reading::Show),
-        is(b"show n1 ", Reading::NoLine),
-        is(b"shown1", Reading::NoLine),
-    ];
-    assert_eq!(rt; first_wrong_case(&cases), None);
+    assert_eq!(rt; first_wrong_case(&LINES), None);
     Ok(())
 }
 
 #[test]
 fn texts(rt: HostRuntime) -> Result<(), Fail> {
-    let alloc = rt.alloc();
     let id = Id::new(b"n1").ok_or("id")?;
-    let mut text = Vec::new(alloc);
-    write_down(&id, &mut text).ok().ok_or("memory")?;
-    write_show_down(&id, &mut text).ok().ok_or("memory")?;
-    let mut answers = Vec::new(alloc);
+    let mut text = Vec::new(rt.alloc());
+    let is_down = write_down(&id, &mut text).is_ok();
+    let is_shown = write_show_down(&id, &mut text).is_ok();
+    let is_pending = write_all_pending(rt.alloc(), &[1, 30], &mut text).is_ok();
+    let wanted: &[u8] = b"down n1\nshow n1 down\npending 1\npending 30\n";
+    let is_written = text.as_slice() == wanted;
+    drop(text);
+    assert!(rt; is_down && is_shown && is_pending && is_written);
+    Ok(())
+}
+
+#[test]
+fn an_answer(rt: HostRuntime) -> Result<(), Fail> {
+    let mut answers = Vec::new(rt.alloc());
     answers.push(Answer {
         number: 2,
         say: Say::NoLeader { term: 7 },
     })?;
-    write_answers(alloc, &answers, &mut text)
-        .ok()
-        .ok_or("memory")?;
-    write_all_pending(alloc, &[1, 30], &mut text)
-        .ok()
-        .ok_or("memory")?;
-    let wanted: &[u8] =
-        b"down n1\nshow n1 down\nanswer 2 503 leader not found: term 7\npending 1\npending 30\n";
-    assert!(rt; text.as_slice() == wanted);
+    let mut text = Vec::new(rt.alloc());
+    let is_done = write_answers(rt.alloc(), &answers, &mut text).is_ok();
+    let wanted: &[u8] = b"answer 2 503 leader not found: term 7\n";
+    let is_written = text.as_slice() == wanted;
+    drop((answers, text));
+    assert!(rt; is_done && is_written);
     Ok(())
 }

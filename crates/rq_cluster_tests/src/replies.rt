@@ -60,8 +60,17 @@ fn results(alloc: Global) -> Result<Say, Fail> {
 
 fn is_reply(alloc: Global, say: &Say, status: u16, body: &[u8]) -> Result<bool, Fail> {
     let mut written = Vec::new(alloc);
-    write_body(alloc, say, &mut written).ok().ok_or("memory")?;
-    Ok(say.status() == status && written.as_slice() == body)
+    let is_done = write_body(alloc, say, &mut written).is_ok();
+    let is_same = say.status() == status && written.as_slice() == body;
+    drop(written);
+    Ok(is_done && is_same)
+}
+
+fn results_are(alloc: Global, body: &[u8]) -> Result<bool, Fail> {
+    let results = results(alloc)?;
+    let is = is_reply(alloc, &results, 200, body);
+    drop(results);
+    is
 }
 
 #[test]
@@ -70,7 +79,7 @@ fn replies_are_as_rqlite_has_them(rt: HostRuntime) -> Result<(), Fail> {
     let body = b"{\"results\":[{},{\"last_insert_id\":1,\"rows_affected\":1},\
         {\"columns\":[\"id\",\"name\",\"age\"],\"types\":[\"integer\",\"text\",\"integer\"],\
         \"values\":[[1,\"fiona\",20]]},{\"error\":\"near \\\"x\\\"\\n\"}]}";
-    assert!(rt; is_reply(alloc, &results(alloc)?, 200, body)?);
+    assert!(rt; results_are(alloc, body)?);
     let no_leader = Say::NoLeader { term: 0 };
     assert!(rt; is_reply(alloc, &no_leader, 503, b"leader not found: term 0")?);
     let too_large = Say::EntryTooLarge(8_388_609);
