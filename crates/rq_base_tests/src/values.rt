@@ -11,7 +11,14 @@ fn text(alloc: Global, bytes: &[u8]) -> Result<Value, Fail> {
     Ok(Value::Text(text))
 }
 
-/// Whether the value is spelled so, and read from that.
+fn is_copied(value: &Value) -> Result<bool, Fail> {
+    let copy = value.copy()?;
+    let is_same = copy == *value;
+    drop(copy);
+    Ok(is_same)
+}
+
+/// Whether the value is spelled so and read from that, and equals its copy.
 fn is_spelled(alloc: Global, value: &Value, bytes: &[u8]) -> Result<bool, Fail> {
     let mut spelled = Vec::new(alloc);
     let is_same = encode(value, &mut spelled).is_ok() && spelled.as_slice() == bytes;
@@ -19,7 +26,7 @@ fn is_spelled(alloc: Global, value: &Value, bytes: &[u8]) -> Result<bool, Fail> 
     let (read, len) = decode(alloc, bytes, 0, 5).ok().ok_or("refused")?;
     let is_read = read == *value && len == bytes.len();
     drop(read);
-    Ok(is_same && is_read)
+    Ok(is_same && is_read && is_copied(value)?)
 }
 
 fn text_is_spelled(alloc: Global, text: &[u8], bytes: &[u8]) -> Result<bool, Fail> {
@@ -36,7 +43,7 @@ fn blob_is_spelled(alloc: Global, blob: &[u8], bytes: &[u8]) -> Result<bool, Fai
     is
 }
 
-/// Each value is spelled as stated, and is read again.
+/// Each value is spelled as stated, is read again, and equals its copy.
 #[test]
 fn values_and_their_bytes(rt: HostRuntime) -> Result<(), Fail> {
     let alloc = rt.alloc();
@@ -124,7 +131,7 @@ fn names(rt: HostRuntime) -> Result<(), Fail> {
     Ok(())
 }
 
-fn is_copied(list: &Seq<Value>) -> Result<bool, Fail> {
+fn list_is_copied(list: &Seq<Value>) -> Result<bool, Fail> {
     let copy = list.copy()?;
     let is_same = copy.as_slice() == list.as_slice();
     drop(copy);
@@ -135,8 +142,8 @@ fn is_copied(list: &Seq<Value>) -> Result<bool, Fail> {
 fn copies(rt: HostRuntime) -> Result<(), Fail> {
     let mut list = Seq::new(rt.alloc());
     list.push(text(rt.alloc(), b"a")?)?;
-    list.push(Value::Int(7))?;
-    let is_same = is_copied(&list);
+    list.push(text(rt.alloc(), b"ab")?)?;
+    let is_same = list_is_copied(&list);
     drop(list);
     assert!(rt; is_same?);
     Ok(())

@@ -37,7 +37,14 @@ fn a_configuration_and_its_bytes(rt: HostRuntime) -> Result<(), Fail> {
     Ok(())
 }
 
-/// Whether the entry is spelled so, and read from that.
+fn is_copied(entry: &Entry) -> Result<bool, Fail> {
+    let copy = entry.copy()?;
+    let is_same = copy == *entry;
+    drop(copy);
+    Ok(is_same)
+}
+
+/// Whether the entry is spelled so and read from that, and equals its copy.
 fn is_spelled(alloc: Global, entry: &Entry, bytes: &[u8]) -> Result<bool, Fail> {
     let mut spelled = Vec::new(alloc);
     let is_same = encode_entry(entry, &mut spelled).is_ok() && spelled.as_slice() == bytes;
@@ -45,7 +52,7 @@ fn is_spelled(alloc: Global, entry: &Entry, bytes: &[u8]) -> Result<bool, Fail> 
     let read = decode_entry(alloc, bytes).ok().ok_or("refused")?;
     let is_read = read == *entry;
     drop(read);
-    Ok(is_same && is_read)
+    Ok(is_same && is_read && is_copied(entry)?)
 }
 
 fn body_is_spelled(alloc: Global, term: u64, body: Body, bytes: &[u8]) -> Result<bool, Fail> {
@@ -55,7 +62,7 @@ fn body_is_spelled(alloc: Global, term: u64, body: Body, bytes: &[u8]) -> Result
     is
 }
 
-/// Entries are spelled as stated, and are read again.
+/// Entries are spelled as stated, are read again, and equal their copies.
 #[test]
 fn entries_and_their_bytes(rt: HostRuntime) -> Result<(), Fail> {
     let alloc = rt.alloc();
@@ -68,25 +75,6 @@ fn entries_and_their_bytes(rt: HostRuntime) -> Result<(), Fail> {
     let data = Body::Data(Bytes::new(alloc, b"\x09")?);
     let bytes = b"\x02\x01\0\0\0\0\0\0\x02\x01\0\0\0\x09";
     assert!(rt; body_is_spelled(alloc, 258, data, bytes)?);
-    Ok(())
-}
-
-fn is_copied(entry: &Entry) -> Result<bool, Fail> {
-    let copy = entry.copy()?;
-    let is_same = copy == *entry;
-    drop(copy);
-    Ok(is_same)
-}
-
-#[test]
-fn copies(rt: HostRuntime) -> Result<(), Fail> {
-    let entry = Entry {
-        term: 2,
-        body: Body::Config(first_config(rt.alloc())?),
-    };
-    let is_same = is_copied(&entry);
-    drop(entry);
-    assert!(rt; is_same?);
     Ok(())
 }
 
