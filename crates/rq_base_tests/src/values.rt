@@ -11,8 +11,8 @@ fn text(alloc: Global, bytes: &[u8]) -> Result<Value, Fail> {
     Ok(Value::Text(text))
 }
 
-fn is_copied(value: &Value) -> Result<bool, Fail> {
-    let copy = value.copy()?;
+fn is_copied(alloc: Global, value: &Value) -> Result<bool, Fail> {
+    let copy = value.copy(alloc)?;
     let is_same = copy == *value;
     drop(copy);
     Ok(is_same)
@@ -26,7 +26,7 @@ fn is_spelled(alloc: Global, value: &Value, bytes: &[u8]) -> Result<bool, Fail> 
     let (read, len) = decode(alloc, bytes, 0, 5).ok().ok_or("refused")?;
     let is_read = read == *value && len == bytes.len();
     drop(read);
-    Ok(is_same && is_read && is_copied(value)?)
+    Ok(is_same && is_read && is_copied(alloc, value)?)
 }
 
 fn text_is_spelled(alloc: Global, text: &[u8], bytes: &[u8]) -> Result<bool, Fail> {
@@ -131,8 +131,8 @@ fn names(rt: HostRuntime) -> Result<(), Fail> {
     Ok(())
 }
 
-fn list_is_copied(list: &Seq<Value>) -> Result<bool, Fail> {
-    let copy = list.copy()?;
+fn list_is_copied(alloc: Global, list: &Seq<Value>) -> Result<bool, Fail> {
+    let copy = list.copy(alloc)?;
     let is_same = copy.as_slice() == list.as_slice();
     drop(copy);
     Ok(is_same)
@@ -143,7 +143,7 @@ fn copies(rt: HostRuntime) -> Result<(), Fail> {
     let mut list = Seq::new(rt.alloc());
     list.push(text(rt.alloc(), b"a")?)?;
     list.push(text(rt.alloc(), b"ab")?)?;
-    let is_same = list_is_copied(&list);
+    let is_same = list_is_copied(rt.alloc(), &list);
     drop(list);
     assert!(rt; is_same?);
     Ok(())

@@ -37,8 +37,8 @@ fn a_configuration_and_its_bytes(rt: HostRuntime) -> Result<(), Fail> {
     Ok(())
 }
 
-fn is_copied(entry: &Entry) -> Result<bool, Fail> {
-    let copy = entry.copy()?;
+fn is_copied(alloc: Global, entry: &Entry) -> Result<bool, Fail> {
+    let copy = entry.copy(alloc)?;
     let is_same = copy == *entry;
     drop(copy);
     Ok(is_same)
@@ -52,7 +52,7 @@ fn is_spelled(alloc: Global, entry: &Entry, bytes: &[u8]) -> Result<bool, Fail> 
     let read = decode_entry(alloc, bytes).ok().ok_or("refused")?;
     let is_read = read == *entry;
     drop(read);
-    Ok(is_same && is_read && is_copied(entry)?)
+    Ok(is_same && is_read && is_copied(alloc, entry)?)
 }
 
 fn body_is_spelled(alloc: Global, term: u64, body: Body, bytes: &[u8]) -> Result<bool, Fail> {

@@ -198,12 +198,12 @@ fn integer_of_text(text: &Text) -> Option<Value>
     }
 }
 
-fn stored_text(text: &Text, kind: ColumnKind) -> Result<Option<Value>, NoMemory>
+fn stored_text(alloc: Global, text: &Text, kind: ColumnKind) -> Result<Option<Value>, NoMemory>
     ensures { IfOk result (λ stored. stored ≡ spec.stored_text text.now kind) }
 {
     match kind {
         ColumnKind::Integer => Ok(integer_of_text(text)),
-        ColumnKind::Text => Ok(Some(Value::Text(text.copy()?))),
+        ColumnKind::Text => Ok(Some(Value::Text(text.copy(alloc)?))),
     }
 }
 
@@ -214,7 +214,7 @@ fn stored(alloc: Global, value: &Value, kind: ColumnKind) -> Result<Option<Value
     match value {
         Value::Null => Ok(Some(Value::Null)),
         Value::Int(number) => stored_integer(alloc, *number, kind),
-        Value::Text(text) => stored_text(text, kind),
+        Value::Text(text) => stored_text(alloc, text, kind),
         Value::Blob(_) => Ok(None),
     }
 }

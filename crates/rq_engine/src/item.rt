@@ -1,6 +1,7 @@
 //! An item of a request's list.
 use crate::statement::Statement;
 use rq_values::{NoMemory, Text, TryCopy};
+use std::alloc::Global;
 
 /// A statement that is to run, or the error that its text has.
 #[derive(Debug, Drop)]
@@ -10,10 +11,10 @@ pub enum Item {
 }
 
 impl TryCopy for Item {
-    fn copy(&self) -> Result<Item, NoMemory> {
+    fn copy(&self, alloc: Global) -> Result<Item, NoMemory> {
         match self {
-            Item::Run(statement) => Ok(Item::Run(statement.copy()?)),
-            Item::Fail(text) => Ok(Item::Fail(text.copy()?)),
+            Item::Run(statement) => Ok(Item::Run(statement.copy(alloc)?)),
+            Item::Fail(text) => Ok(Item::Fail(text.copy(alloc)?)),
         }
     }
 }

@@ -1,5 +1,6 @@
 //! The statements that are built, as values.
 use rq_values::{NoMemory, Seq, Text, TryCopy, Value};
+use std::alloc::Global;
 
 /// What a column takes.
 #[derive(Clone, Copy, Debug, PartialEq, Eq)]
@@ -34,9 +35,9 @@ pub enum Statement {
 }
 
 impl TryCopy for Column {
-    fn copy(&self) -> Result<Column, NoMemory> {
+    fn copy(&self, alloc: Global) -> Result<Column, NoMemory> {
         Ok(Column {
-            name: self.name.copy()?,
+            name: self.name.copy(alloc)?,
             kind: self.kind,
             primary: self.primary,
         })
@@ -44,23 +45,23 @@ impl TryCopy for Column {
 }
 
 impl TryCopy for Statement {
-    fn copy(&self) -> Result<Statement, NoMemory> {
+    fn copy(&self, alloc: Global) -> Result<Statement, NoMemory> {
         match self {
             Statement::Create { table, columns } => Ok(Statement::Create {
-                table: table.copy()?,
-                columns: columns.copy()?,
+                table: table.copy(alloc)?,
+                columns: columns.copy(alloc)?,
             }),
             Statement::Insert {
                 table,
                 columns,
                 values,
             } => Ok(Statement::Insert {
-                table: table.copy()?,
-                columns: columns.copy()?,
-                values: values.copy()?,
+                table: table.copy(alloc)?,
+                columns: columns.copy(alloc)?,
+                values: values.copy(alloc)?,
             }),
             Statement::SelectAll { table } => Ok(Statement::SelectAll {
-                table: table.copy()?,
+                table: table.copy(alloc)?,
             }),
         }
     }

@@ -78,7 +78,7 @@ impl Table {
     {
         let mut names = Seq::new(alloc);
         for column in self.columns.as_slice() {
-            names.push(column.name.copy()?)?;
+            names.push(column.name.copy(alloc)?)?;
         }
         Ok(names)
     }
@@ -100,7 +100,7 @@ impl Table {
     {
         let mut rows = Seq::new(alloc);
         for row in self.rows.values() {
-            rows.push(row.copy()?)?;
+            rows.push(row.copy(alloc)?)?;
         }
         Ok(rows)
     }

@@ -91,7 +91,7 @@ fn taken(alloc: Global, name: &Text) -> Result<Refusal, NoMemory>
 fn empty_table(alloc: Global, name: &Text, columns: &Seq<Column>) -> Result<Table, NoMemory>
     ensures { IfOk result (λ t. t ≡ record { name = name.now; columns = columns.now; rows = [] }) }
 {
-    Ok(Table::new(alloc, name.copy()?, columns.copy()?))
+    Ok(Table::new(alloc, name.copy(alloc)?, columns.copy(alloc)?))
 }
 
 impl Tables {
@@ -197,7 +197,7 @@ impl Tables {
     {
         match item {
             Item::Run(statement) => settle(self.run(alloc, statement)),
-            Item::Fail(text) => Ok(Res::Error(text.copy()?)),
+            Item::Fail(text) => Ok(Res::Error(text.copy(alloc)?)),
         }
     }
 
@@ -206,7 +206,7 @@ impl Tables {
     {
         match item {
             Item::Run(statement) => settle(self.read(alloc, statement)),
-            Item::Fail(text) => Ok(Res::Error(text.copy()?)),
+            Item::Fail(text) => Ok(Res::Error(text.copy(alloc)?)),
         }
     }
 

@@ -23,7 +23,7 @@ pub fn built(alloc: Global, stmt: &Stmt) -> Result<Option<Statement>, NoMemory>
             columns: Some(columns),
             rows,
         } => built_insert(alloc, table, columns.as_slice(), rows),
-        Stmt::Select(select) => built_select(select),
+        Stmt::Select(select) => built_select(alloc, select),
         _ => Ok(None),
     }
 }
@@ -44,7 +44,7 @@ fn kind_of(column: &ColumnDef) -> Option<ColumnKind>
     }
 }
 
-fn built_column(column: &ColumnDef) -> Result<Option<Column>, NoMemory>
+fn built_column(alloc: Global, column: &ColumnDef) -> Result<Option<Column>, NoMemory>
     ensures { IfOk result (λ built. built ≡ spec.built_column column.now) }
 {
     if column.not_null || column.unique {
@@ -52,7 +52,7 @@ fn built_column(column: &ColumnDef) -> Result<Option<Column>, NoMemory>
     }
     match kind_of(column) {
         Some(kind) => Ok(Some(Column {
-            name: column.name.copy()?,
+            name: column.name.copy(alloc)?,
             kind,
             primary: column.primary,
         })),
@@ -65,7 +65,7 @@ fn built_columns(alloc: Global, columns: &[ColumnDef]) -> Result<Option<Seq<Colu
 {
     let mut list = Seq::new(alloc);
     for column in columns {
-        match built_column(column)? {
+        match built_column(alloc, column)? {
             Some(built) => list.push(built)?,
             None => return Ok(None),
         }
@@ -86,19 +86,19 @@ fn built_create(
     }
     match built_columns(alloc, columns)? {
         Some(columns) => Ok(Some(Statement::Create {
-            table: table.copy()?,
+            table: table.copy(alloc)?,
             columns,
         })),
         None => Ok(None),
     }
 }
 
-fn built_value(expr: &Expr) -> Result<Option<Value>, NoMemory>
+fn built_value(alloc: Global, expr: &Expr) -> Result<Option<Value>, NoMemory>
     ensures { IfOk result (λ value. value ≡ spec.built_value expr.now) }
 {
     match expr {
         Expr::Literal(Value::Int(number)) => Ok(Some(Value::Int(*number))),
-        Expr::Literal(Value::Text(text)) => Ok(Some(Value::Text(text.copy()?))),
+        Expr::Literal(Value::Text(text)) => Ok(Some(Value::Text(text.copy(alloc)?))),
         _ => Ok(None),
     }
 }
@@ -108,7 +108,7 @@ fn built_values(alloc: Global, row: &[Expr]) -> Result<Option<Seq<Value>>, NoMem
 {
     let mut list = Seq::new(alloc);
     for expr in row {
-        match built_value(expr)? {
+        match built_value(alloc, expr)? {
             Some(value) => list.push(value)?,
             None => return Ok(None),
         }
@@ -130,7 +130,7 @@ fn names_of(alloc: Global, names: &[Text]) -> Result<Seq<Text>, NoMemory>
 {
     let mut list = Seq::new(alloc);
     for name in names {
-        list.push(name.copy()?)?;
+        list.push(name.copy(alloc)?)?;
     }
     Ok(list)
 }
@@ -148,7 +148,7 @@ fn built_insert(
     };
     match built_row(alloc, rows.as_slice())? {
         Some(values) => Ok(Some(Statement::Insert {
-            table: table.copy()?,
+            table: table.copy(alloc)?,
             columns: names_of(alloc, columns)?,
             values,
         })),
@@ -176,7 +176,7 @@ fn is_bare(select: &SelectStmt) -> bool
         && select.offset.is_none()
 }
 
-fn built_select(select: &SelectStmt) -> Result<Option<Statement>, NoMemory>
+fn built_select(alloc: Global, select: &SelectStmt) -> Result<Option<Statement>, NoMemory>
     ensures { IfOk result (λ statement. statement ≡ spec.built_select select.now) }
 {
     if !is_all(select.results.as_slice()) || !is_bare(select) {
@@ -184,7 +184,7 @@ fn built_select(select: &SelectStmt) -> Result<Option<Statement>, NoMemory>
     }
     match &select.table {
         Some(table) => Ok(Some(Statement::SelectAll {
-            table: table.copy()?,
+            table: table.copy(alloc)?,
         })),
         None => Ok(None),
     }

@@ -1,2 +1,4 @@
 pub mod Texts
 pub mod Loop
+pub mod Plain
+pub mod Agreeing

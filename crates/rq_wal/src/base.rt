@@ -24,15 +24,15 @@ pub struct Base {
 }
 
 impl TryCopy for Base {
-    fn copy(&self) -> Result<Base, NoMemory> {
+    fn copy(&self, alloc: Global) -> Result<Base, NoMemory> {
         Ok(Base {
             term: self.term,
             vote: self.vote,
             boot: self.boot,
             index: self.index,
             last_term: self.last_term,
-            config: self.config.copy()?,
-            state: self.state.copy()?,
+            config: self.config.copy(alloc)?,
+            state: self.state.copy(alloc)?,
         })
     }
 }

@@ -140,7 +140,7 @@ fn begin<D: Disk>(
     ensures by { IsErrOf result errors.Disk → DeviceRose D.means disks.old disks.new ⊎ (arm_of disks.new ≡ arms.Struck) }
     ensures most { PassesMost 8 (arm_of disks.old) (arm_of disks.new) }
 {
-    let stored = start(alloc, first.copy()?);
+    let stored = start(alloc, first.copy(alloc)?);
     let body = body(alloc, 1, first)?;
     disks.ready(FileNo::One, body.len() as u64 + 2, 8)?;
     begin_replace(disks, FileNo::One, 0)?;

@@ -233,6 +233,6 @@ pub fn next_log<'a>(
     ensures { Gives (λ x. (x.0, x.1.now)) result (log_at first.now bytes.now) }
 {
     let rest = next_base(spelled, bytes)?;
-    let first = first.copy()?;
+    let first = first.copy(alloc)?;
     next_frames(alloc, start(alloc, first), rest)
 }

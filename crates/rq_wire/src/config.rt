@@ -3,6 +3,7 @@ ghost use Rattle.std.specs.Prelude.{◌≡◌, length};
 ghost use Rattle.rq_wire.specs.Config.{quorum_of};
 
 use rq_values::{Addr, Id, NoMemory, Seq, TryCopy};
+use std::alloc::Global;
 use std::marker::Model;
 
 /// A node of the cluster: its id, whether it votes, and where it is reached.
@@ -15,12 +16,12 @@ pub struct Member {
 }
 
 impl TryCopy for Member {
-    fn copy(&self) -> Result<Member, NoMemory> {
+    fn copy(&self, alloc: Global) -> Result<Member, NoMemory> {
         Ok(Member {
             id: self.id,
             voter: self.voter,
-            http: self.http.copy()?,
-            raft: self.raft.copy()?,
+            http: self.http.copy(alloc)?,
+            raft: self.raft.copy(alloc)?,
         })
     }
 }
@@ -69,9 +70,9 @@ impl PartialEq for Config {
 }
 
 impl TryCopy for Config {
-    fn copy(&self) -> Result<Config, NoMemory> {
+    fn copy(&self, alloc: Global) -> Result<Config, NoMemory> {
         Ok(Config {
-            members: self.members.copy()?,
+            members: self.members.copy(alloc)?,
         })
     }
 }

@@ -1,6 +1,7 @@
 //! Entries of the log.
 use crate::config::Config;
 use rq_values::{Bytes, NoMemory, TryCopy};
+use std::alloc::Global;
 
 /// What an entry does.
 #[derive(Debug, PartialEq, Drop)]
@@ -20,20 +21,20 @@ pub struct Entry {
 }
 
 impl TryCopy for Body {
-    fn copy(&self) -> Result<Body, NoMemory> {
+    fn copy(&self, alloc: Global) -> Result<Body, NoMemory> {
         match self {
             Body::NoOp => Ok(Body::NoOp),
-            Body::Config(config) => Ok(Body::Config(config.copy()?)),
-            Body::Data(data) => Ok(Body::Data(data.copy()?)),
+            Body::Config(config) => Ok(Body::Config(config.copy(alloc)?)),
+            Body::Data(data) => Ok(Body::Data(data.copy(alloc)?)),
         }
     }
 }
 
 impl TryCopy for Entry {
-    fn copy(&self) -> Result<Entry, NoMemory> {
+    fn copy(&self, alloc: Global) -> Result<Entry, NoMemory> {
         Ok(Entry {
             term: self.term,
-            body: self.body.copy()?,
+            body: self.body.copy(alloc)?,
         })
     }
 }
