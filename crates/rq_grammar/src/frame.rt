@@ -157,9 +157,15 @@ struct Held {
 }
 
 /// What is open, the innermost first.
-#[derive(Drop)]
 pub struct Stack {
     held: Vec<Held>,
+}
+
+impl Drop for Stack {
+    fn drop(self) {
+        let Stack { held } = self;
+        drop(held);
+    }
 }
 
 impl Model for Stack {

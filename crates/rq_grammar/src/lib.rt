@@ -2,6 +2,7 @@
 //! that reads one token at a time. The grammar is to be held against `docs/SQL.md`; what is proved of it stands in `laws`.
 #![tactic(auto)]
 
+mod copies;
 mod examples;
 mod expr;
 mod frame;

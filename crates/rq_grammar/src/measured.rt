@@ -11,10 +11,16 @@ use std::alloc::Global;
 use std::marker::Model;
 
 /// An expression and its depth.
-#[derive(Drop)]
 pub struct Measured {
     expr: Expr,
     levels: u8,
+}
+
+impl Drop for Measured {
+    fn drop(self) {
+        let Measured { expr, levels: _ } = self;
+        drop(expr);
+    }
 }
 
 impl Model for Measured {
@@ -33,10 +39,16 @@ impl Model for Measured {
 }
 
 /// Expressions, and the depth of the deepest.
-#[derive(Drop)]
 pub struct MeasuredList {
     items: Items<Expr>,
     levels: u8,
+}
+
+impl Drop for MeasuredList {
+    fn drop(self) {
+        let MeasuredList { items, levels: _ } = self;
+        drop(items);
+    }
 }
 
 impl Model for MeasuredList {
@@ -56,10 +68,16 @@ impl Model for MeasuredList {
 }
 
 /// Rows of expressions, and the depth of the deepest.
-#[derive(Drop)]
 pub struct MeasuredRows {
     rows: Items<Items<Expr>>,
     levels: u8,
+}
+
+impl Drop for MeasuredRows {
+    fn drop(self) {
+        let MeasuredRows { rows, levels: _ } = self;
+        drop(rows);
+    }
 }
 
 impl Model for MeasuredRows {
@@ -79,10 +97,16 @@ impl Model for MeasuredRows {
 }
 
 /// What an UPDATE sets, and the depth of the deepest.
-#[derive(Drop)]
 pub struct MeasuredSets {
     sets: Items<(Text, Expr)>,
     levels: u8,
+}
+
+impl Drop for MeasuredSets {
+    fn drop(self) {
+        let MeasuredSets { sets, levels: _ } = self;
+        drop(sets);
+    }
 }
 
 impl Model for MeasuredSets {
@@ -116,7 +140,7 @@ fn boxed(alloc: Global, expr: Expr) -> Result<Boxed<Expr>, NoMemory>
 }
 
 /// Both, if both are there.
-fn both<A: Drop, B: Drop>(
+pub(crate) fn both<A: Drop, B: Drop>(
     one: Result<A, NoMemory>,
     two: Result<B, NoMemory>,
 ) -> Result<(A, B), NoMemory>
@@ -217,7 +241,7 @@ impl Measured {
         Measured {
             expr: Expr::Call {
                 name,
-                args: args.items,
+                args: args.into_inner(),
             },
             levels,
         }
@@ -228,7 +252,7 @@ impl Measured {
     {
         let levels = above(operand.levels);
         Ok(Measured {
-            expr: Expr::Minus(Boxed::new(alloc, operand.expr)?),
+            expr: Expr::Minus(Boxed::new(alloc, operand.into_inner())?),
             levels,
         })
     }
@@ -238,7 +262,7 @@ impl Measured {
     {
         let levels = above(operand.levels);
         Ok(Measured {
-            expr: Expr::Not(Boxed::new(alloc, operand.expr)?),
+            expr: Expr::Not(Boxed::new(alloc, operand.into_inner())?),
             levels,
         })
     }
@@ -252,7 +276,10 @@ impl Measured {
         ensures { IfOk result (λ x. x ≡ e.Binary op left right) }
     {
         let levels = above(left.levels.max(right.levels));
-        let (left, right) = both(boxed(alloc, left.expr), boxed(alloc, right.expr))?;
+        let (left, right) = both(
+            boxed(alloc, left.into_inner()),
+            boxed(alloc, right.into_inner()),
+        )?;
         Ok(Measured {
             expr: Expr::Binary { op, left, right },
             levels,
@@ -271,8 +298,8 @@ impl Measured {
         Ok(Measured {
             expr: Expr::InList {
                 negated,
-                left: Boxed::new(alloc, left.expr)?,
-                list: list.items,
+                left: Boxed::new(alloc, left.into_inner())?,
+                list: list.into_inner(),
             },
             levels,
         })
@@ -288,8 +315,11 @@ impl Measured {
         ensures { IfOk result (λ x. x ≡ e.Between negated left low high) }
     {
         let levels = above(left.levels.max(low.levels.max(high.levels)));
-        let halves = both(boxed(alloc, left.expr), boxed(alloc, low.expr));
-        let ((left, low), high) = both(halves, boxed(alloc, high.expr))?;
+        let halves = both(
+            boxed(alloc, left.into_inner()),
+            boxed(alloc, low.into_inner()),
+        );
+        let ((left, low), high) = both(halves, boxed(alloc, high.into_inner()))?;
         Ok(Measured {
             expr: Expr::Between {
                 negated,
@@ -310,7 +340,8 @@ impl Measured {
     pub fn into_inner(self) -> Expr
         ensures { result ≡ self }
     {
-        self.expr
+        let Measured { expr, levels: _ } = self;
+        expr
     }
 }
 
@@ -328,8 +359,9 @@ impl MeasuredList {
     pub fn push(&mut self, expr: Measured) -> Result<(), NoMemory>
         ensures { OnOk result (self.new ≡ self.old ++ expr ∷ []) }
     {
-        self.items.push(expr.expr)?;
-        self.levels = self.levels.max(expr.levels);
+        let levels = expr.levels;
+        self.items.push(expr.into_inner())?;
+        self.levels = self.levels.max(levels);
         Ok(())
     }
 
@@ -342,7 +374,8 @@ impl MeasuredList {
     pub fn into_inner(self) -> Items<Expr>
         ensures { result ≡ self }
     {
-        self.items
+        let MeasuredList { items, levels: _ } = self;
+        items
     }
 }
 
@@ -360,8 +393,9 @@ impl MeasuredRows {
     pub fn push(&mut self, row: MeasuredList) -> Result<(), NoMemory>
         ensures { OnOk result (self.new ≡ self.old ++ row ∷ []) }
     {
-        self.rows.push(row.items)?;
-        self.levels = self.levels.max(row.levels);
+        let levels = row.levels;
+        self.rows.push(row.into_inner())?;
+        self.levels = self.levels.max(levels);
         Ok(())
     }
 
@@ -374,7 +408,8 @@ impl MeasuredRows {
     pub fn into_inner(self) -> Items<Items<Expr>>
         ensures { result ≡ self }
     {
-        self.rows
+        let MeasuredRows { rows, levels: _ } = self;
+        rows
     }
 }
 
@@ -392,8 +427,9 @@ impl MeasuredSets {
     pub fn push(&mut self, name: Text, expr: Measured) -> Result<(), NoMemory>
         ensures { OnOk result (self.new ≡ self.old ++ (name, expr) ∷ []) }
     {
-        self.sets.push((name, expr.expr))?;
-        self.levels = self.levels.max(expr.levels);
+        let levels = expr.levels;
+        self.sets.push((name, expr.into_inner()))?;
+        self.levels = self.levels.max(levels);
         Ok(())
     }
 
@@ -406,6 +442,7 @@ impl MeasuredSets {
     pub fn into_inner(self) -> Items<(Text, Expr)>
         ensures { result ≡ self }
     {
-        self.sets
+        let MeasuredSets { sets, levels: _ } = self;
+        sets
     }
 }

@@ -53,7 +53,6 @@ pub enum Stage {
 }
 
 /// A select as far as it is read, and the depth of each of its parts.
-#[derive(Drop)]
 pub struct MeasuredQuery {
     query: Query,
     results: u8,
@@ -61,6 +60,20 @@ pub struct MeasuredQuery {
     order: u8,
     limit: u8,
     offset: u8,
+}
+
+impl Drop for MeasuredQuery {
+    fn drop(self) {
+        let MeasuredQuery {
+            query,
+            results: _,
+            filter: _,
+            order: _,
+            limit: _,
+            offset: _,
+        } = self;
+        drop(query);
+    }
 }
 
 impl Model for MeasuredQuery {
@@ -221,7 +234,15 @@ impl MeasuredQuery {
         ensures { result ≡ spec.selected self }
     {
         let levels = self.levels(Stage::Limited);
-        let Query { target, select } = self.query;
+        let MeasuredQuery {
+            query,
+            results: _,
+            filter: _,
+            order: _,
+            limit: _,
+            offset: _,
+        } = self;
+        let Query { target, select } = query;
         MeasuredStmt {
             stmt: select_into(target, select),
             levels,
@@ -245,10 +266,16 @@ fn select_into(target: Option<Target>, select: SelectStmt) -> Stmt
 }
 
 /// A statement and its depth.
-#[derive(Drop)]
 pub struct MeasuredStmt {
     stmt: Stmt,
     levels: u8,
+}
+
+impl Drop for MeasuredStmt {
+    fn drop(self) {
+        let MeasuredStmt { stmt, levels: _ } = self;
+        drop(stmt);
+    }
 }
 
 impl Model for MeasuredStmt {
@@ -338,7 +365,8 @@ impl MeasuredStmt {
     pub fn into_inner(self) -> Stmt
         ensures { result ≡ self }
     {
-        self.stmt
+        let MeasuredStmt { stmt, levels: _ } = self;
+        stmt
     }
 }
 
