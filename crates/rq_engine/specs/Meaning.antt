@@ -107,18 +107,22 @@ is_same_target (target.Column m) (target.Column n) = m == n
 abbrev pub is_named : Target → List Target → Bool
 is_named t ts = list_any (is_same_target t) ts
 
--- behind targets that are known, a target that is none of them
-abbrev pub one_more : List Target → Option Target → Option (List Target)
-one_more ts None = None
-one_more ts (Some t) = if is_named t ts then None else Some (ts ++ t ∷ [])
+-- what each name names, where each names something
+abbrev pub named_by : List Column → List (List ℕ) → Option (List Target)
+named_by cs [] = Some []
+named_by cs (name ∷ names) = option_and_then (λ t. option_map (λ ts. t ∷ ts) (named_by cs names)) (target_of cs name)
 
-abbrev pub targets_behind : List Target → List Column → List (List ℕ) → Option (List Target)
-targets_behind ts cs [] = Some ts
-targets_behind ts cs (name ∷ names) = option_and_then (λ us. targets_behind us cs names) (one_more ts (target_of cs name))
+-- whether two of the targets are the same
+abbrev pub is_double : List Target → Bool
+is_double [] = false
+is_double (t ∷ ts) = is_named t ts || is_double ts
+
+abbrev pub if_apart : List Target → Option (List Target)
+if_apart ts = if is_double ts then None else Some ts
 
 -- what the names name, where each names something and none the same as another
 abbrev pub targets_of : List Column → List (List ℕ) → Option (List Target)
-targets_of cs names = targets_behind [] cs names
+targets_of cs names = option_and_then if_apart (named_by cs names)
 
 -- the value that is given for a target
 abbrev pub given : Target → List Target → List Value → Option Value
@@ -157,13 +161,13 @@ stored_at k n ts vs = stored (unwrap_or (given (target.Column n) ts vs) value.Nu
 abbrev pub cell : ℤ → Column → ℕ → List Target → List Value → Option Value
 cell k c n ts vs = if is_rowid c then Some (value.Int k) else stored_at c.kind n ts vs
 
-abbrev pub cells_behind : List Value → ℤ → ℕ → List Column → List Target → List Value → Option (List Value)
-cells_behind row k n [] ts vs = Some row
-cells_behind row k n (c ∷ cs) ts vs = option_and_then (λ v. cells_behind (row ++ v ∷ []) k (n + 1) cs ts vs) (cell k c n ts vs)
+-- the values in the columns' order, the columns counted from n; a column that isn't named has NULL, the column that is the rowid shows it
+abbrev pub cells_from : ℤ → ℕ → List Column → List Target → List Value → Option (List Value)
+cells_from k n [] ts vs = Some []
+cells_from k n (c ∷ cs) ts vs = option_and_then (λ v. option_map (λ row. v ∷ row) (cells_from k (n + 1) cs ts vs)) (cell k c n ts vs)
 
--- the values in the columns' order; a column that isn't named has NULL, the column that is the rowid shows it
 abbrev pub cells : ℤ → List Column → List Target → List Value → Option (List Value)
-cells k cs ts vs = cells_behind [] k 0 cs ts vs
+cells k cs ts vs = cells_from k 0 cs ts vs
 
 abbrev pub has_row : List Row → ℤ → Bool
 has_row rows k = is_some (lookup (is_at (int_cmp k)) rows)
@@ -272,14 +276,10 @@ abbrev pub answer_of : Database → Item → Res
 answer_of db (Run s) = as_res (read db s)
 answer_of db (Fail e) = res.Error e
 
--- the database that items leave, and what they answer behind what was answered before
-abbrev pub executed_behind : List Res → Database → List Item → Database × List Res
-executed_behind rs db [] = (db, rs)
-executed_behind rs db (i ∷ is) = executed_behind (rs ++ (means db i).1 ∷ []) (means db i).0 is
-
--- a list, each item by itself
+-- the database that a list leaves, and what its items answer, each item by itself
 abbrev pub executed : Database → List Item → Database × List Res
-executed db is = executed_behind [] db is
+executed db [] = (db, [])
+executed db (i ∷ is) = let p = means db i in let q = executed p.0 is in (q.0, p.1 ∷ q.1)
 
 abbrev pub answers : Database → List Item → List Res
 answers db is = map (answer_of db) is

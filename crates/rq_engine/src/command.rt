@@ -1,5 +1,6 @@
 //! Commands of the log, and what a statement answers.
-ghost use Rattle.std.specs.Prelude.{◌≡◌, ◌++◌, OnOk};
+ghost use Rattle.std.specs.Prelude.{◌≡◌, ◌++◌, OnOk, OnErr};
+ghost use Rattle.rq_values.specs.Writing.{KeepsFront};
 ghost use Rattle.rq_engine.specs.Command as spec;
 
 use crate::item::Item;
@@ -44,12 +45,26 @@ impl Encode for Item {
     }
 }
 
-/// Adds the command that runs the items, each by itself. With no memory a part of it may be there; a list or a
-/// text of 2^32 or more has no spelling: it is answered as want of memory.
-pub fn encode_execute(items: &[Item], into: &mut Vec<u8>) -> Result<(), NoMemory>
-    ensures { OnOk result (into.new.items ≡ into.old.items ++ spec.execute_bytes items.now) }
+/// Adds the command. With no memory a part of it may be there.
+fn put_execute(items: &[Item], into: &mut Vec<u8>) -> Result<(), NoMemory>
+    ensures ok { OnOk result (into.new.items ≡ into.old.items ++ spec.execute_bytes items.now) }
+    ensures err { OnErr result (KeepsFront into.old.items into.new.items) }
 {
     put_u8(1, into)?;
     put_u8(0, into)?;
     put_list(items, into)
+}
+
+/// Adds the command that runs the items, each by itself, all of it or nothing; a list or a
+/// text of 2^32 or more has no spelling: it is answered as want of memory.
+pub fn encode_execute(items: &[Item], into: &mut Vec<u8>) -> Result<(), NoMemory>
+    ensures ok { OnOk result (into.new.items ≡ into.old.items ++ spec.execute_bytes items.now) }
+    ensures err { OnErr result (into.new.items ≡ into.old.items) }
+{
+    let len = into.len();
+    let done = put_execute(items, into);
+    if done.is_err() {
+        into.truncate(len);
+    }
+    done
 }

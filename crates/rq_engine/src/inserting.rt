@@ -92,22 +92,48 @@ fn is_named(target: Target, targets: &[Target]) -> bool
     targets.iter().any(|named| is_same_target(target, *named))
 }
 
-/// The targets with one more. None where it is one of them, or none.
-fn one_more(
-    mut targets: Seq<Target>,
-    target: Option<Target>,
+/// What each name names. None where one names nothing.
+fn named_by(
+    alloc: Global,
+    columns: &[Column],
+    names: &[Text],
 ) -> Result<Option<Seq<Target>>, NoMemory>
-    ensures { IfOk result (λ more. more ≡ spec.one_more targets target) }
+    ensures { IfOk result (λ targets. targets ≡ spec.named_by columns.now names.now) }
 {
-    match target {
-        None => Ok(None),
-        Some(target) => {
-            if is_named(target, targets.as_slice()) {
+    let mut targets = Seq::new(alloc);
+    for name in names {
+        match target_of(columns, name.bytes()) {
+            None => {
+                drop(targets);
                 return Ok(None);
             }
-            targets.push(target)?;
-            Ok(Some(targets))
+            Some(target) => targets.push(target)?,
         }
+    }
+    Ok(Some(targets))
+}
+
+/// Whether two of the targets are the same.
+fn is_double(targets: &[Target]) -> bool
+    ensures { result ≡ spec.is_double targets.now }
+{
+    for (i, target) in targets.iter().enumerate() {
+        if is_named(*target, &targets[i + 1..]) {
+            return true;
+        }
+    }
+    false
+}
+
+/// The targets, where no two are the same.
+fn if_apart(targets: Seq<Target>) -> Option<Seq<Target>>
+    ensures { result ≡ spec.if_apart targets }
+{
+    if is_double(targets.as_slice()) {
+        drop(targets);
+        None
+    } else {
+        Some(targets)
     }
 }
 
@@ -119,14 +145,10 @@ fn targets_of(
 ) -> Result<Option<Seq<Target>>, NoMemory>
     ensures { IfOk result (λ targets. targets ≡ spec.targets_of columns.now names.now) }
 {
-    let mut targets = Seq::new(alloc);
-    for name in names {
-        match one_more(targets, target_of(columns, name.bytes()))? {
-            None => return Ok(None),
-            Some(more) => targets = more,
-        }
+    match named_by(alloc, columns, names) {
+        Ok(Some(targets)) => Ok(if_apart(targets)),
+        other => other,
     }
-    Ok(Some(targets))
 }
 
 /// The value that is given for a target.

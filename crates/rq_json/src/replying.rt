@@ -1,5 +1,5 @@
 //! The reply to an ask: docs/SCRIPT.md, "Replies".
-ghost use Rattle.std.specs.Prelude.{◌≡◌, ◌++◌, ◌∷◌, [], flat_map, OnOk, IfOk, decimal};
+ghost use Rattle.std.specs.Prelude.{◌≡◌, ◌++◌, ◌∷◌, [], flat_map, OnOk, OnErr, IfOk, decimal};
 ghost use Rattle.rq_json.specs.Reply.{body_of, results_tokens, result_tokens, result_members, id_member, rows_member, values_member, texts_member, row_tokens, value_token, array_of};
 ghost use Rattle.std.specs.Fmt.{signed_decimal};
 ghost use Rattle.json.specs.Token.{key, number, string};
@@ -16,9 +16,10 @@ use rq_engine::{Res, Say};
 use rq_values::{NoMemory, Seq, Text, Value};
 use std::alloc::{AllocError, Global};
 
-/// Appends the body of the reply.
+/// Appends the body of the reply, all of it or nothing.
 pub fn write_body(alloc: Global, say: &Say, into: &mut Vec<u8>) -> Result<(), NoMemory>
-    ensures { OnOk result (into.new.items ≡ into.old.items ++ body_of say.now) }
+    ensures ok { OnOk result (into.new.items ≡ into.old.items ++ body_of say.now) }
+    ensures err { OnErr result (into.new.items ≡ into.old.items) }
 {
     match say {
         Say::Results(results) => write_results_body(alloc, results.as_slice(), into),
@@ -28,7 +29,8 @@ pub fn write_body(alloc: Global, say: &Say, into: &mut Vec<u8>) -> Result<(), No
 }
 
 fn write_no_leader(alloc: Global, term: u64, into: &mut Vec<u8>) -> Result<(), NoMemory>
-    ensures { OnOk result (into.new.items ≡ into.old.items ++ body_of (NoLeader term)) }
+    ensures ok { OnOk result (into.new.items ≡ into.old.items ++ body_of (NoLeader term)) }
+    ensures err { OnErr result (into.new.items ≡ into.old.items) }
 {
     let body = format!(in alloc; "leader not found: term {term}")?;
     into.extend_from_slice(body.as_bytes())?;
@@ -36,7 +38,8 @@ fn write_no_leader(alloc: Global, term: u64, into: &mut Vec<u8>) -> Result<(), N
 }
 
 fn write_too_large(alloc: Global, size: u64, into: &mut Vec<u8>) -> Result<(), NoMemory>
-    ensures { OnOk result (into.new.items ≡ into.old.items ++ body_of (EntryTooLarge size)) }
+    ensures ok { OnOk result (into.new.items ≡ into.old.items ++ body_of (EntryTooLarge size)) }
+    ensures err { OnErr result (into.new.items ≡ into.old.items) }
 {
     let body = format!(in alloc; "entry too large: {size}")?;
     into.extend_from_slice(body.as_bytes())?;
@@ -44,7 +47,8 @@ fn write_too_large(alloc: Global, size: u64, into: &mut Vec<u8>) -> Result<(), N
 }
 
 fn write_results_body(alloc: Global, results: &[Res], into: &mut Vec<u8>) -> Result<(), NoMemory>
-    ensures { OnOk result (into.new.items ≡ into.old.items ++ print (results_tokens results.now)) }
+    ensures ok { OnOk result (into.new.items ≡ into.old.items ++ print (results_tokens results.now)) }
+    ensures err { OnErr result (into.new.items ≡ into.old.items) }
 {
     let body = results_body(alloc, results)?;
     into.extend_from_slice(&body)?;

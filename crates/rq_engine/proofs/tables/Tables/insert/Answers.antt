@@ -1,4 +1,4 @@
-use Rattle.std.proofs.Common.{◌≡◌, ℕ, ℤ, ◌+◌, ◌≤◌, List, Some, Ok, sym, ap, subst, ◌∙◌, rules, w64, FitsSigned}
+use Rattle.std.proofs.Common.{◌≡◌, ℕ, ℤ, ◌+◌, ◌≤◌, List, Some, None, Ok, sym, ap, subst, ◌∙◌, rules, w64, FitsSigned}
 use Rattle.std.specs.Map.{lookup, set_value}
 use Rattle.std.specs.BTreeMap.{is_at}
 use Rattle.std.proofs.lemmas.Int.{to_z-of_z}
@@ -7,8 +7,20 @@ use Rattle.rq_engine.specs.declared.statement.Column.{Column}
 use Rattle.rq_engine.specs.declared.command.Res.TheVariants as res
 use Rattle.rq_engine.specs.Database as db
 use Rattle.rq_engine.specs.Meaning as spec
-use Rattle.rq_engine.proofs.Statements.{inserted_is, inserted_full, inserted_size, gives_error}
+use Rattle.rq_engine.proofs.Statements.{inserted_is, inserted_full, inserted_refused, inserted_size, gives_error}
 use Rattle.rq_engine.proofs.tables.Tables.insert.Goals as goal
+
+pub returns-in_default-2 : goal.returns-in_default-2
+returns-in_default-2 c =
+    let d : db.Database = c.args.self.now in
+    let name : List ℕ = c.args.name.now in
+    let t : db.Table = c.in-Some.table.now in
+    let there : db.table_of name d ≡ Some t =
+    ap (λ (es : db.Database). lookup (is_at (db.name_cmp (db.lower name))) es) (sym c.self.view_is)
+    ∙ ap (λ (k : List ℕ). lookup (is_at (db.name_cmp k)) c.self.inside.tables.entries) (sym c.in_ok-key.ensures)
+    ∙ sym c.in-Some.ensures.value in
+    let none : spec.new_row t c.args.columns.now c.args.values.now ≡ None = cc (c.in_ok-rowid.ensures, c.in_default-2.is) in
+    gives_error _ d spec.not_built _ (inserted_refused d name c.args.columns.now c.args.values.now t there none) c.in_ok-unbuilt.ensures
 
 pub returns-in-None : goal.returns-in-None
 returns-in-None c =
