@@ -1,0 +1,5 @@
+pub mod Parameters
+pub mod Paths
+pub mod Refusal
+pub mod Routing
+pub mod Target
