@@ -1,5 +1,5 @@
 -- What is held of a connection's bytes.
-use Rattle.std.specs.Prelude.{◌≡◌, ◌≤◌, [], Bool, IsTrue, ℕ, List, ◌++◌, ◌+◌, length, take, drop}
+use Rattle.std.specs.Prelude.{◌≡◌, ◌≤◌, ⊤, [], Bool, IsTrue, ℕ, List, ◌++◌, ◌+◌, length, take, drop}
 use Rattle.httparse.specs.Grammar.{RequestHead}
 use Rattle.httparse.specs.Spans.{span_bytes, IsWithin}
 use Rattle.rq_http.specs.declared.place.Front.{Front}
@@ -9,6 +9,8 @@ use Rattle.rq_http.specs.declared.incoming.Judged.{Judged}
 use Rattle.rq_http.specs.declared.incoming.Judged.TheVariants as judged
 use Rattle.rq_http.specs.declared.incoming.Next.{Next}
 use Rattle.rq_http.specs.declared.incoming.Next.TheVariants as next
+use Rattle.rq_http.specs.declared.connection.Turn.{Turn}
+use Rattle.rq_http.specs.declared.connection.Turn.TheVariants as turn
 use Rattle.rq_http.specs.Front.{front_of}
 use Rattle.rq_http.specs.Request.{Request, IsNext, IsRefused, IsUnfinished, IsHead, fields_of}
 use Rattle.rq_http.specs.declared.head.Framing.TheVariants.{Body}
@@ -55,3 +57,26 @@ abbrev pub IsBrought : Bool → List ℕ → List ℕ → Next → Type 0
 IsBrought told left held (next.Request asked) = IsAsked held asked
 IsBrought told left held (next.Refused refusal) = (more : List ℕ) → IsRefused (held ++ more) refusal
 IsBrought told left held next.End = (IsTrue told → left ≡ []) × IsUnfinished held
+
+-- a head ends no earlier than at this place
+abbrev pub EndsFrom : ℕ → Front → Type 0
+EndsFrom scanned (Head size) = scanned ≤ size
+EndsFrom scanned (Part place) = ⊤
+EndsFrom scanned Broken = ⊤
+
+-- at most one read, of 4,096 bytes, is held behind the head
+abbrev pub IsNearHead : List ℕ → Front → Type 0
+IsNearHead held (Head size) = length held ≤ size + 4096
+IsNearHead held (Part place) = ⊤
+IsNearHead held Broken = ⊤
+
+-- at most one read is held behind the request, which has at most 16,384 + 1,048,576 bytes
+abbrev pub IsNearRequest : List ℕ → Next → Type 0
+IsNearRequest held (next.Request asked) = (length held ≤ asked.body.end + 4096) × (asked.body.end ≤ 1064960)
+IsNearRequest held (next.Refused refusal) = ⊤
+IsNearRequest held next.End = ⊤
+
+-- at most one read is held between two requests
+abbrev pub IsNearTurn : List ℕ → Turn → Type 0
+IsNearTurn held turn.On = length held ≤ 4096
+IsNearTurn held (turn.End served) = ⊤

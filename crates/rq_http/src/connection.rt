@@ -1,7 +1,7 @@
 // A connection, served to its end.
 ghost use Rattle.std.specs.Prelude.{◌≡◌, ◌≤◌, ◌<◌, ◌+◌, ◌++◌, ◌∷◌, [], List, ℕ, length, drop, IsTrue, IfOk, OnOk, OnErr, IsErrOf, true, if◌then◌else◌, ◌==◌};
 ghost use Rattle.rq_outside.specs.Counts.{Rose};
-ghost use Rattle.rq_http.specs.Incoming.{IsAsked, request_at};
+ghost use Rattle.rq_http.specs.Incoming.{IsAsked, IsNearTurn, request_at};
 ghost use Rattle.rq_http.specs.Run.{Happens, ComesTo, IsTurn, Finally, IsWholeTurn, IsAnswer, IsPartOfAnswer, Runs, Ends, BrokenOff, IsWhole, plain, refusal_reply};
 ghost use Rattle.rq_http.specs.Response.{response};
 ghost use Rattle.rq_http.specs.Streams.{Took, IsPrefix};
@@ -148,6 +148,9 @@ fn serve_request<K: Sink, P: Port>(
 ) -> Result<Turn, ServeError>
     requires asked { IsAsked held.old.items asked }
     requires count { count < 10000 }
+    requires near { length held.old.items ≤ asked.body.end + 4096 }
+    ensures few { OnOk result (length held.new.items ≤ 4096) }
+    ensures most { length held.new.items ≤ length held.old.items }
     ensures ok { IfOk result (IsTurn (record { source = K.told; sink = K.told; port = P.told }) (record { left = []; taken = K.taken sink.old; asked = P.asked port.old }) (record { left = []; taken = K.taken sink.new; asked = P.asked port.new }) held.old.items count held.new.items) }
     ensures err { OnErr result (ComesTo (record { source = K.told; sink = K.told; port = P.told }) (record { left = []; taken = K.taken sink.old; asked = P.asked port.old }) (record { left = []; taken = K.taken sink.new; asked = P.asked port.new }) held.old.items count BrokenOff) }
     ensures silent { IsErrOf result ServePort → (ComesTo (record { source = K.told; sink = K.told; port = P.told }) (record { left = []; taken = K.taken sink.old; asked = P.asked port.old }) (record { left = []; taken = K.taken sink.new; asked = P.asked port.new }) held.old.items count IsWhole) }
@@ -205,7 +208,10 @@ fn serve_next<S: Source, K: Sink, P: Port>(
     sink: &mut K,
     port: &mut P,
 ) -> Result<Turn, ServeError>
-    requires { count < 10000 }
+    requires count { count < 10000 }
+    requires near { length held.old.items ≤ 4096 }
+    ensures near { IfOk result (IsNearTurn held.new.items) }
+    ensures most { length held.new.items ≤ 1069056 }
     ensures ok { IfOk result (IsWholeTurn (record { source = S.told; sink = K.told; port = P.told }) (record { left = S.left source.old; taken = K.taken sink.old; asked = P.asked port.old }) (record { left = S.left source.new; taken = K.taken sink.new; asked = P.asked port.new }) held.old.items count held.new.items) }
     ensures err { OnErr result (Finally (record { source = S.told; sink = K.told; port = P.told }) (record { left = S.left source.old; taken = K.taken sink.old; asked = P.asked port.old }) (record { left = S.left source.new; taken = K.taken sink.new; asked = P.asked port.new }) held.old.items count BrokenOff) }
     ensures silent { IsErrOf result ServePort → (Finally (record { source = S.told; sink = K.told; port = P.told }) (record { left = S.left source.old; taken = K.taken sink.old; asked = P.asked port.old }) (record { left = S.left source.new; taken = K.taken sink.new; asked = P.asked port.new }) held.old.items count IsWhole) }

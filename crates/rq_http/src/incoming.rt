@@ -2,7 +2,7 @@
 ghost use Rattle.std.specs.Prelude.{◌≡◌, ◌≤◌, ◌<◌, ◌+◌, ◌++◌, [], List, ℕ, length, drop, take, IsTrue, IfOk, OnOk, OnErr, IsErrOf, Ok, false};
 ghost use Rattle.rq_outside.specs.Counts.{Rose};
 ghost use Rattle.rq_http.specs.Streams.{Came};
-ghost use Rattle.rq_http.specs.Incoming.{IsFound, IsJudged, IsBrought};
+ghost use Rattle.rq_http.specs.Incoming.{IsFound, IsJudged, IsBrought, EndsFrom, IsNearHead, IsNearRequest};
 ghost use Rattle.rq_http.specs.declared.place.Place.{Place as ThePlace};
 ghost use Rattle.rq_http.specs.declared.place.Place.TheVariants.{Before};
 ghost use Rattle.rq_http.specs.declared.place.Front.TheVariants.{Head, Part};
@@ -48,6 +48,7 @@ pub enum Next {
 pub fn read_more<S: Source>(held: &mut Vec<u8>, source: &mut S) -> Result<usize, ReadError>
     ensures came { OnOk result (Came S.told (S.left source.old) (S.left source.new) held.old.items held.new.items) }
     ensures count { IfOk result (λ n. length held.new.items ≡ length held.old.items + n) }
+    ensures most { length held.new.items ≤ length held.old.items + 4096 }
     ensures end { IsTrue S.told → IfOk result (λ n. n ≡ 0 → S.left source.new ≡ []) }
     ensures later { S.faults source.old ≤ S.faults source.new }
     ensures cause { IsErrOf result ReadFailed → Rose (S.faults source.old) (S.faults source.new) }
@@ -67,7 +68,8 @@ fn scan_on(held: &[u8], scanned: usize, place: Place) -> Front
     requires within { scanned ≤ length held.now }
     requires limit { scanned ≤ 16384 }
     requires stood { scan 0 Before (take scanned held.now) ≡ Part place }
-    ensures { scan 0 Before (take 16384 held.now) ≡ result }
+    ensures value { scan 0 Before (take 16384 held.now) ≡ result }
+    ensures from { EndsFrom scanned result }
 {
     let end = held.len().min(MAX_HEAD);
     match scan(place, &held[scanned..end]) {
@@ -79,8 +81,11 @@ fn scan_on(held: &[u8], scanned: usize, place: Place) -> Front
 
 /// Reads up to the end of the head at the front.
 pub fn find_head<S: Source>(held: &mut Vec<u8>, source: &mut S) -> Result<Front, ReadError>
+    requires { length held.old.items ≤ 4096 }
     ensures came { OnOk result (Came S.told (S.left source.old) (S.left source.new) held.old.items held.new.items) }
     ensures found { IfOk result (IsFound held.new.items) }
+    ensures near { IfOk result (IsNearHead held.new.items) }
+    ensures most { length held.new.items ≤ 20480 }
     ensures end { (place : ThePlace) → result ≡ Ok (Part place) → IsTrue S.told → S.left source.new ≡ [] }
     ensures later { S.faults source.old ≤ S.faults source.new }
     ensures cause { IsErrOf result ReadFailed → Rose (S.faults source.old) (S.faults source.new) }
@@ -107,6 +112,8 @@ pub fn find_head<S: Source>(held: &mut Vec<u8>, source: &mut S) -> Result<Front,
 
 /// Reads until so many bytes are held, and answers whether they are.
 pub fn fill<S: Source>(held: &mut Vec<u8>, source: &mut S, size: usize) -> Result<bool, ReadError>
+    requires { length held.old.items ≤ size + 4096 }
+    ensures most { length held.new.items ≤ size + 4096 }
     ensures came { OnOk result (Came S.told (S.left source.old) (S.left source.new) held.old.items held.new.items) }
     ensures filled { IfOk result (λ whole. IsTrue whole → size ≤ length held.new.items) }
     ensures end { IfOk result (λ whole. whole ≡ false → (length held.new.items < size) × (IsTrue S.told → S.left source.new ≡ [])) }
@@ -159,9 +166,12 @@ fn read_request<S: Source>(
     source: &mut S,
     size: usize,
 ) -> Result<Next, ReadError>
-    requires { IsFound held.old.items (Head size) }
+    requires found { IsFound held.old.items (Head size) }
+    requires near { length held.old.items ≤ size + 4096 }
     ensures came { OnOk result (Came S.told (S.left source.old) (S.left source.new) held.old.items held.new.items) }
     ensures next { IfOk result (IsBrought S.told (S.left source.new) held.new.items) }
+    ensures near { IfOk result (IsNearRequest held.new.items) }
+    ensures most { length held.new.items ≤ 1069056 }
     ensures later { S.faults source.old ≤ S.faults source.new }
     ensures cause { IsErrOf result ReadFailed → Rose (S.faults source.old) (S.faults source.new) }
 {
@@ -177,8 +187,11 @@ fn read_request<S: Source>(
 
 /// Reads up to the end of the next request.
 pub fn next_request<S: Source>(held: &mut Vec<u8>, source: &mut S) -> Result<Next, ReadError>
+    requires { length held.old.items ≤ 4096 }
     ensures came { OnOk result (Came S.told (S.left source.old) (S.left source.new) held.old.items held.new.items) }
     ensures next { IfOk result (IsBrought S.told (S.left source.new) held.new.items) }
+    ensures near { IfOk result (IsNearRequest held.new.items) }
+    ensures most { length held.new.items ≤ 1069056 }
     ensures later { S.faults source.old ≤ S.faults source.new }
     ensures cause { IsErrOf result ReadFailed → Rose (S.faults source.old) (S.faults source.new) }
 {
