@@ -22,12 +22,12 @@ fn with_item<T: Drop>(mut list: Items<T>, item: T) -> Result<Items<T>, NoMemory>
     }
 }
 
-fn copy_maybe_text(text: &Option<Text>) -> Result<Option<Text>, NoMemory>
+fn copy_maybe_text(alloc: Global, text: &Option<Text>) -> Result<Option<Text>, NoMemory>
     ensures { IfOk result (λ copy. copy ≡ text.now) }
 {
     match text {
         None => Ok(None),
-        Some(text) => Ok(Some(text.copy()?)),
+        Some(text) => Ok(Some(text.copy(alloc)?)),
     }
 }
 
@@ -61,11 +61,11 @@ fn copy_expr(alloc: Global, expr: &Expr) -> Result<Expr, NoMemory>
     ensures { IfOk result (λ copy. copy ≡ expr.now) }
 {
     match expr {
-        Expr::Literal(value) => Ok(Expr::Literal(value.copy()?)),
-        Expr::Param(name) => Ok(Expr::Param(copy_maybe_text(name)?)),
-        Expr::Name(name) => Ok(Expr::Name(name.copy()?)),
+        Expr::Literal(value) => Ok(Expr::Literal(value.copy(alloc)?)),
+        Expr::Param(name) => Ok(Expr::Param(copy_maybe_text(alloc, name)?)),
+        Expr::Name(name) => Ok(Expr::Name(name.copy(alloc)?)),
         Expr::Qualified { table, column } => {
-            let (table, column) = both(table.copy(), column.copy())?;
+            let (table, column) = both(table.copy(alloc), column.copy(alloc))?;
             Ok(Expr::Qualified { table, column })
         }
         Expr::CurrentTimestamp => Ok(Expr::CurrentTimestamp),
@@ -73,7 +73,7 @@ fn copy_expr(alloc: Global, expr: &Expr) -> Result<Expr, NoMemory>
         Expr::CurrentTime => Ok(Expr::CurrentTime),
         Expr::CountAll => Ok(Expr::CountAll),
         Expr::Call { name, args } => {
-            let (name, args) = both(name.copy(), copy_list(alloc, args.as_slice()))?;
+            let (name, args) = both(name.copy(alloc), copy_list(alloc, args.as_slice()))?;
             Ok(Expr::Call { name, args })
         }
         Expr::Minus(operand) => Ok(Expr::Minus(copy_boxed(alloc, operand.get())?)),
@@ -142,7 +142,7 @@ fn copy_result(alloc: Global, item: &ResultItem) -> Result<ResultItem, NoMemory>
     match item {
         ResultItem::All => Ok(ResultItem::All),
         ResultItem::Value { expr, alias } => {
-            let (expr, alias) = both(copy_expr(alloc, expr), copy_maybe_text(alias))?;
+            let (expr, alias) = both(copy_expr(alloc, expr), copy_maybe_text(alloc, alias))?;
             Ok(ResultItem::Value { expr, alias })
         }
     }
@@ -191,7 +191,7 @@ impl SelectStmt {
             copy_order(alloc, self.order.as_slice()),
         );
         let source = both(
-            copy_maybe_text(&self.table),
+            copy_maybe_text(alloc, &self.table),
             copy_maybe(alloc, &self.filter),
         );
         let ends = both(
@@ -217,7 +217,7 @@ fn copy_names(alloc: Global, names: &[Text]) -> Result<Items<Text>, NoMemory>
 {
     let mut copy = Items::new(alloc);
     for name in names {
-        match name.copy() {
+        match name.copy(alloc) {
             Ok(name) => copy = with_item(copy, name)?,
             Err(error) => {
                 drop(copy);
@@ -245,7 +245,7 @@ fn copy_columns(alloc: Global, columns: &[ColumnDef]) -> Result<Items<ColumnDef>
 {
     let mut copy = Items::new(alloc);
     for column in columns {
-        match column.copy() {
+        match column.copy(alloc) {
             Ok(column) => copy = with_item(copy, column)?,
             Err(error) => {
                 drop(copy);
@@ -258,11 +258,11 @@ fn copy_columns(alloc: Global, columns: &[ColumnDef]) -> Result<Items<ColumnDef>
 
 impl ColumnDef {
     /// An equal column.
-    pub fn copy(&self) -> Result<ColumnDef, NoMemory>
+    pub fn copy(&self, alloc: Global) -> Result<ColumnDef, NoMemory>
         ensures { IfOk result (λ copy. copy ≡ self.now) }
     {
         Ok(ColumnDef {
-            name: self.name.copy()?,
+            name: self.name.copy(alloc)?,
             kind: self.kind,
             primary: self.primary,
             not_null: self.not_null,
@@ -276,7 +276,7 @@ fn copy_sets(alloc: Global, sets: &[(Text, Expr)]) -> Result<Items<(Text, Expr)>
 {
     let mut copy = Items::new(alloc);
     for set in sets {
-        match both(set.0.copy(), copy_expr(alloc, &set.1)) {
+        match both(set.0.copy(alloc), copy_expr(alloc, &set.1)) {
             Ok(set) => copy = with_item(copy, set)?,
             Err(error) => {
                 drop(copy);
@@ -324,7 +324,7 @@ impl Stmt {
                 columns,
             } => {
                 let columns = copy_columns(alloc, columns.as_slice());
-                let (table, columns) = both(table.copy(), columns)?;
+                let (table, columns) = both(table.copy(alloc), columns)?;
                 Ok(Stmt::Create {
                     if_not_exists: *if_not_exists,
                     table,
@@ -333,14 +333,14 @@ impl Stmt {
             }
             Stmt::Drop { if_exists, table } => Ok(Stmt::Drop {
                 if_exists: *if_exists,
-                table: table.copy()?,
+                table: table.copy(alloc)?,
             }),
             Stmt::Insert {
                 table,
                 columns,
                 rows,
             } => {
-                let target = both(table.copy(), copy_maybe_names(alloc, columns));
+                let target = both(table.copy(alloc), copy_maybe_names(alloc, columns));
                 let ((table, columns), rows) = both(target, copy_rows(alloc, rows))?;
                 Ok(Stmt::Insert {
                     table,
@@ -353,7 +353,7 @@ impl Stmt {
                 sets,
                 filter,
             } => {
-                let target = both(table.copy(), copy_sets(alloc, sets.as_slice()));
+                let target = both(table.copy(alloc), copy_sets(alloc, sets.as_slice()));
                 let ((table, sets), filter) = both(target, copy_maybe(alloc, filter))?;
                 Ok(Stmt::Update {
                     table,
@@ -362,7 +362,7 @@ impl Stmt {
                 })
             }
             Stmt::Delete { table, filter } => {
-                let (table, filter) = both(table.copy(), copy_maybe(alloc, filter))?;
+                let (table, filter) = both(table.copy(alloc), copy_maybe(alloc, filter))?;
                 Ok(Stmt::Delete { table, filter })
             }
             Stmt::Select(select) => Ok(Stmt::Select(select.copy(alloc)?)),
