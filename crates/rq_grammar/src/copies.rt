@@ -22,15 +22,6 @@ fn with_item<T: Drop>(mut list: Items<T>, item: T) -> Result<Items<T>, NoMemory>
     }
 }
 
-fn copy_maybe_text(alloc: Global, text: &Option<Text>) -> Result<Option<Text>, NoMemory>
-    ensures { IfOk result (λ copy. copy ≡ text.now) }
-{
-    match text {
-        None => Ok(None),
-        Some(text) => Ok(Some(text.copy(alloc)?)),
-    }
-}
-
 #[cycle(copied)]
 fn copy_list(alloc: Global, list: &[Expr]) -> Result<Items<Expr>, NoMemory>
     ensures { IfOk result (λ copy. copy ≡ list.now) }
@@ -62,7 +53,7 @@ fn copy_expr(alloc: Global, expr: &Expr) -> Result<Expr, NoMemory>
 {
     match expr {
         Expr::Literal(value) => Ok(Expr::Literal(value.copy(alloc)?)),
-        Expr::Param(name) => Ok(Expr::Param(copy_maybe_text(alloc, name)?)),
+        Expr::Param(name) => Ok(Expr::Param(name.copy(alloc)?)),
         Expr::Name(name) => Ok(Expr::Name(name.copy(alloc)?)),
         Expr::Qualified { table, column } => {
             let (table, column) = both(table.copy(alloc), column.copy(alloc))?;
@@ -118,42 +109,19 @@ fn copy_expr(alloc: Global, expr: &Expr) -> Result<Expr, NoMemory>
     }
 }
 
-impl Expr {
-    /// An equal expression.
-    pub fn copy(&self, alloc: Global) -> Result<Expr, NoMemory>
-        ensures { IfOk result (λ copy. copy ≡ self.now) }
-    {
+impl TryCopy for Expr {
+    fn copy(&self, alloc: Global) -> Result<Expr, NoMemory> {
         copy_expr(alloc, self)
     }
 }
 
-fn copy_maybe(alloc: Global, expr: &Option<Expr>) -> Result<Option<Expr>, NoMemory>
-    ensures { IfOk result (λ copy. copy ≡ expr.now) }
-{
-    match expr {
-        None => Ok(None),
-        Some(expr) => Ok(Some(copy_expr(alloc, expr)?)),
-    }
-}
-
-fn copy_result(alloc: Global, item: &ResultItem) -> Result<ResultItem, NoMemory>
-    ensures { IfOk result (λ copy. copy ≡ item.now) }
-{
-    match item {
-        ResultItem::All => Ok(ResultItem::All),
-        ResultItem::Value { expr, alias } => {
-            let (expr, alias) = both(copy_expr(alloc, expr), copy_maybe_text(alloc, alias))?;
-            Ok(ResultItem::Value { expr, alias })
-        }
-    }
-}
-
-fn copy_results(alloc: Global, items: &[ResultItem]) -> Result<Items<ResultItem>, NoMemory>
+/// A copy of each.
+fn copies<T: TryCopy + Drop>(alloc: Global, items: &[T]) -> Result<Items<T>, NoMemory>
     ensures { IfOk result (λ copy. copy ≡ items.now) }
 {
     let mut copy = Items::new(alloc);
     for item in items {
-        match copy_result(alloc, item) {
+        match item.copy(alloc) {
             Ok(item) => copy = with_item(copy, item)?,
             Err(error) => {
                 drop(copy);
@@ -164,40 +132,35 @@ fn copy_results(alloc: Global, items: &[ResultItem]) -> Result<Items<ResultItem>
     Ok(copy)
 }
 
-fn copy_order(alloc: Global, terms: &[OrderTerm]) -> Result<Items<OrderTerm>, NoMemory>
-    ensures { IfOk result (λ copy. copy ≡ terms.now) }
-{
-    let mut copy = Items::new(alloc);
-    for term in terms {
-        let descending = term.descending;
-        match copy_expr(alloc, &term.expr) {
-            Ok(expr) => copy = with_item(copy, OrderTerm { expr, descending })?,
-            Err(error) => {
-                drop(copy);
-                return Err(error);
+impl TryCopy for ResultItem {
+    fn copy(&self, alloc: Global) -> Result<ResultItem, NoMemory> {
+        match self {
+            ResultItem::All => Ok(ResultItem::All),
+            ResultItem::Value { expr, alias } => {
+                let (expr, alias) = both(expr.copy(alloc), alias.copy(alloc))?;
+                Ok(ResultItem::Value { expr, alias })
             }
         }
     }
-    Ok(copy)
 }
 
-impl SelectStmt {
-    /// An equal select.
-    pub fn copy(&self, alloc: Global) -> Result<SelectStmt, NoMemory>
-        ensures { IfOk result (λ copy. copy ≡ self.now) }
-    {
+impl TryCopy for OrderTerm {
+    fn copy(&self, alloc: Global) -> Result<OrderTerm, NoMemory> {
+        Ok(OrderTerm {
+            expr: self.expr.copy(alloc)?,
+            descending: self.descending,
+        })
+    }
+}
+
+impl TryCopy for SelectStmt {
+    fn copy(&self, alloc: Global) -> Result<SelectStmt, NoMemory> {
         let lists = both(
-            copy_results(alloc, self.results.as_slice()),
-            copy_order(alloc, self.order.as_slice()),
+            copies(alloc, self.results.as_slice()),
+            copies(alloc, self.order.as_slice()),
         );
-        let source = both(
-            copy_maybe_text(alloc, &self.table),
-            copy_maybe(alloc, &self.filter),
-        );
-        let ends = both(
-            copy_maybe(alloc, &self.limit),
-            copy_maybe(alloc, &self.offset),
-        );
+        let source = both(self.table.copy(alloc), self.filter.copy(alloc));
+        let ends = both(self.limit.copy(alloc), self.offset.copy(alloc));
         let ((lists, source), (limit, offset)) = both(both(lists, source), ends)?;
         let (results, order) = lists;
         let (table, filter) = source;
@@ -212,55 +175,8 @@ impl SelectStmt {
     }
 }
 
-fn copy_names(alloc: Global, names: &[Text]) -> Result<Items<Text>, NoMemory>
-    ensures { IfOk result (λ copy. copy ≡ names.now) }
-{
-    let mut copy = Items::new(alloc);
-    for name in names {
-        match name.copy(alloc) {
-            Ok(name) => copy = with_item(copy, name)?,
-            Err(error) => {
-                drop(copy);
-                return Err(error);
-            }
-        }
-    }
-    Ok(copy)
-}
-
-fn copy_maybe_names(
-    alloc: Global,
-    names: &Option<Items<Text>>,
-) -> Result<Option<Items<Text>>, NoMemory>
-    ensures { IfOk result (λ copy. copy ≡ names.now) }
-{
-    match names {
-        None => Ok(None),
-        Some(names) => Ok(Some(copy_names(alloc, names.as_slice())?)),
-    }
-}
-
-fn copy_columns(alloc: Global, columns: &[ColumnDef]) -> Result<Items<ColumnDef>, NoMemory>
-    ensures { IfOk result (λ copy. copy ≡ columns.now) }
-{
-    let mut copy = Items::new(alloc);
-    for column in columns {
-        match column.copy(alloc) {
-            Ok(column) => copy = with_item(copy, column)?,
-            Err(error) => {
-                drop(copy);
-                return Err(error);
-            }
-        }
-    }
-    Ok(copy)
-}
-
-impl ColumnDef {
-    /// An equal column.
-    pub fn copy(&self, alloc: Global) -> Result<ColumnDef, NoMemory>
-        ensures { IfOk result (λ copy. copy ≡ self.now) }
-    {
+impl TryCopy for ColumnDef {
+    fn copy(&self, alloc: Global) -> Result<ColumnDef, NoMemory> {
         Ok(ColumnDef {
             name: self.name.copy(alloc)?,
             kind: self.kind,
@@ -271,12 +187,21 @@ impl ColumnDef {
     }
 }
 
+fn copy_names(alloc: Global, names: &Option<Items<Text>>) -> Result<Option<Items<Text>>, NoMemory>
+    ensures { IfOk result (λ copy. copy ≡ names.now) }
+{
+    match names {
+        None => Ok(None),
+        Some(names) => Ok(Some(copies(alloc, names.as_slice())?)),
+    }
+}
+
 fn copy_sets(alloc: Global, sets: &[(Text, Expr)]) -> Result<Items<(Text, Expr)>, NoMemory>
     ensures { IfOk result (λ copy. copy ≡ sets.now) }
 {
     let mut copy = Items::new(alloc);
     for set in sets {
-        match both(set.0.copy(alloc), copy_expr(alloc, &set.1)) {
+        match both(set.0.copy(alloc), set.1.copy(alloc)) {
             Ok(set) => copy = with_item(copy, set)?,
             Err(error) => {
                 drop(copy);
@@ -303,27 +228,26 @@ fn copy_values(alloc: Global, rows: &[Items<Expr>]) -> Result<Items<Items<Expr>>
     Ok(copy)
 }
 
-fn copy_rows(alloc: Global, rows: &InsertRows) -> Result<InsertRows, NoMemory>
-    ensures { IfOk result (λ copy. copy ≡ rows.now) }
-{
-    match rows {
-        InsertRows::Values(rows) => Ok(InsertRows::Values(copy_values(alloc, rows.as_slice())?)),
-        InsertRows::Select(select) => Ok(InsertRows::Select(select.copy(alloc)?)),
+impl TryCopy for InsertRows {
+    fn copy(&self, alloc: Global) -> Result<InsertRows, NoMemory> {
+        match self {
+            InsertRows::Values(rows) => {
+                Ok(InsertRows::Values(copy_values(alloc, rows.as_slice())?))
+            }
+            InsertRows::Select(select) => Ok(InsertRows::Select(select.copy(alloc)?)),
+        }
     }
 }
 
-impl Stmt {
-    /// An equal statement.
-    pub fn copy(&self, alloc: Global) -> Result<Stmt, NoMemory>
-        ensures { IfOk result (λ copy. copy ≡ self.now) }
-    {
+impl TryCopy for Stmt {
+    fn copy(&self, alloc: Global) -> Result<Stmt, NoMemory> {
         match self {
             Stmt::Create {
                 if_not_exists,
                 table,
                 columns,
             } => {
-                let columns = copy_columns(alloc, columns.as_slice());
+                let columns = copies(alloc, columns.as_slice());
                 let (table, columns) = both(table.copy(alloc), columns)?;
                 Ok(Stmt::Create {
                     if_not_exists: *if_not_exists,
@@ -340,8 +264,8 @@ impl Stmt {
                 columns,
                 rows,
             } => {
-                let target = both(table.copy(alloc), copy_maybe_names(alloc, columns));
-                let ((table, columns), rows) = both(target, copy_rows(alloc, rows))?;
+                let target = both(table.copy(alloc), copy_names(alloc, columns));
+                let ((table, columns), rows) = both(target, rows.copy(alloc))?;
                 Ok(Stmt::Insert {
                     table,
                     columns,
@@ -354,7 +278,7 @@ impl Stmt {
                 filter,
             } => {
                 let target = both(table.copy(alloc), copy_sets(alloc, sets.as_slice()));
-                let ((table, sets), filter) = both(target, copy_maybe(alloc, filter))?;
+                let ((table, sets), filter) = both(target, filter.copy(alloc))?;
                 Ok(Stmt::Update {
                     table,
                     sets,
@@ -362,7 +286,7 @@ impl Stmt {
                 })
             }
             Stmt::Delete { table, filter } => {
-                let (table, filter) = both(table.copy(alloc), copy_maybe(alloc, filter))?;
+                let (table, filter) = both(table.copy(alloc), filter.copy(alloc))?;
                 Ok(Stmt::Delete { table, filter })
             }
             Stmt::Select(select) => Ok(Stmt::Select(select.copy(alloc)?)),
