@@ -201,9 +201,16 @@ fn choose_one(
     ensures refused { IfErr result (λ e. (e ≡ errors.NoMemory) ⊎ (then_ (file_gives first.now 1 one.now) (header_fault 2 two.now) ≡ Err e)) }
     ensures no_disk { IfErr result (λ e. e ≢ errors.Disk) }
 {
-    let opened = read_file(alloc, first, FileNo::One, one)?;
-    check_header(2, two)?;
-    Ok(opened)
+    match read_file(alloc, first, FileNo::One, one) {
+        Ok(opened) => match check_header(2, two) {
+            Ok(()) => Ok(opened),
+            Err(error) => {
+                drop(opened);
+                Err(error)
+            }
+        },
+        Err(error) => Err(error),
+    }
 }
 
 /// What the content of two files stands for, and the current one; nothing where neither is open.
@@ -220,13 +227,25 @@ pub fn choose(
 {
     match (generation(one), generation(two)) {
         (None, None) => Ok(None),
-        (Some(_), None) => Ok(Some(read_file(alloc, first, FileNo::One, one)?)),
-        (None, Some(_)) => Ok(Some(read_file(alloc, first, FileNo::Two, two)?)),
+        (Some(_), None) => match read_file(alloc, first, FileNo::One, one) {
+            Ok(opened) => Ok(Some(opened)),
+            Err(error) => Err(error),
+        },
+        (None, Some(_)) => match read_file(alloc, first, FileNo::Two, two) {
+            Ok(opened) => Ok(Some(opened)),
+            Err(error) => Err(error),
+        },
         (Some(g), Some(h)) => {
             if g < h {
-                Ok(Some(choose_two(alloc, first, one, two)?))
+                match choose_two(alloc, first, one, two) {
+                    Ok(opened) => Ok(Some(opened)),
+                    Err(error) => Err(error),
+                }
             } else {
-                Ok(Some(choose_one(alloc, first, one, two)?))
+                match choose_one(alloc, first, one, two) {
+                    Ok(opened) => Ok(Some(opened)),
+                    Err(error) => Err(error),
+                }
             }
         }
     }

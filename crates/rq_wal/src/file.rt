@@ -117,9 +117,33 @@ impl WalFile {
         ensures later { Later D.means disks.old disks.new }
     {
         let pieces = pieces(alloc, frames)?;
-        let (bytes, calls) = room(self.end, total(&pieces)?, pieces.len())?;
-        disks.ready(self.file, bytes, calls)?;
-        Ok(Batch { pieces })
+        match self.make_room(disks, &pieces) {
+            Ok(()) => Ok(Batch { pieces }),
+            Err(NoMemory) => {
+                drop(pieces);
+                Err(NoMemory)
+            }
+        }
+    }
+
+    /// Takes the memory that writing these pieces wants.
+    fn make_room<D: Disk>(&self, disks: &mut DiskPair<D>, pieces: &[Bytes]) -> Result<(), NoMemory>
+        ensures fits { OnOk result (wal_end self.now + bytes_of pieces.now < 2 ^ 63) }
+        ensures room { OnOk result (HasRoom (D.means (disk_at disks.new (wal_file self.now))) (bytes_of pieces.now + length pieces.now) (4 * length pieces.now)) }
+        ensures other { disk_at disks.new (other (wal_file self.now)) ≡ disk_at disks.old (other (wal_file self.now)) }
+        ensures same { IsTrue D.told → Stays (D.means (disk_at disks.old (wal_file self.now))) (D.means (disk_at disks.new (wal_file self.now))) }
+        ensures at_rest { IsTrue D.told → IsAtRest (D.means (disk_at disks.old (wal_file self.now))) (wal_end self.now) → IsAtRest (D.means (disk_at disks.new (wal_file self.now))) (wal_end self.now) }
+        ensures current { IsTrue D.told → (first : Base) (stored : Stored) → IsCurrent D.means first disks.old self.now stored → IsCurrent D.means first disks.new self.now stored }
+        ensures now { IsTrue D.told → (first : Base) → EachImage D.means first disks.new (SomeImageGives D.means first disks.old) }
+        ensures time { IsTrue D.told → OnOk result (Elapses (D.means (disk_at disks.old (wal_file self.now))) (D.means (disk_at disks.new (wal_file self.now)))) }
+        ensures faults { (D.means (disk_at disks.new (wal_file self.now))).faults ≡ (D.means (disk_at disks.old (wal_file self.now))).faults }
+        ensures arm { arm_of disks.new ≡ arm_of disks.old }
+        ensures own { own_faults disks.new ≡ own_faults disks.old }
+        ensures later { Later D.means disks.old disks.new }
+    {
+        let bytes = total(pieces)?;
+        let (bytes, calls) = room(self.end, bytes, pieces.len())?;
+        disks.ready(self.file, bytes, calls)
     }
 
     /// Adds the frames in order, by four changing calls each and without memory: the frame and a closed gate behind it; a

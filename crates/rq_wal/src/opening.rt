@@ -1,5 +1,5 @@
 //! Opening a pair.
-ghost use Rattle.std.specs.Prelude.{◌≡◌, ◌≢◌, ◌⊎◌, ◌≤◌, ◌<◌, ◌+◌, ◌^◌, [], length, true, false, Some, None, Ok, Err, IsTrue, IfOk, IfErr, OnOk, OnErr, IfSome, OnSome, IsErrOf};
+ghost use Rattle.std.specs.Prelude.{◌≡◌, ◌≢◌, ◌⊎◌, ◌≤◌, ◌<◌, ◌+◌, ◌^◌, ◌∷◌, ◌++◌, [], length, true, false, Some, None, Ok, Err, IsTrue, IfOk, IfErr, OnOk, OnErr, IfSome, OnSome, IsErrOf};
 ghost use Rattle.rq_outside.specs.Disk.{Only, Stays, LeavesOnly};
 ghost use Rattle.rq_outside.specs.declared.pair.Arm.TheVariants as arms;
 ghost use Rattle.rq_outside.specs.Pair.{other, disk_at, arm_of, PairRose};
@@ -11,7 +11,7 @@ ghost use Rattle.rq_wal.specs.Current.{IsBegun, IsFound, IsCurrent, EachImage, E
 ghost use Rattle.rq_wal.specs.Gate.{IsAtRest};
 ghost use Rattle.rq_wal.specs.Reading.{pair_gives};
 ghost use Rattle.rq_wal.specs.Replace.{is_open, generation_of};
-ghost use Rattle.rq_wal.specs.Spelling.{base_bytes, front_bytes, file_bytes};
+ghost use Rattle.rq_wal.specs.Spelling.{base_bytes, body_bytes, front_bytes, file_bytes};
 ghost use Rattle.rq_wal.specs.Stored.{IsBase, stored_after};
 ghost use Rattle.rq_wal.specs.WalFile.{wal_file, wal_end, wal_generation};
 
@@ -21,8 +21,8 @@ use crate::error::OpenError;
 use crate::file::WalFile;
 use crate::replacing::{begin_replace, finish_replace};
 use crate::spelling::body;
-use rq_outside::{Disk, DiskPair, FileNo};
-use rq_values::TryCopy;
+use rq_outside::{Disk, DiskPair, Failed, FileNo};
+use rq_values::{NoMemory, TryCopy};
 use std::alloc::Global;
 
 /// Opens a pair: syncs both files, reads them, and takes the current one. Where neither is open it writes file one with
@@ -140,17 +140,53 @@ fn begin<D: Disk>(
     ensures by { IsErrOf result errors.Disk → DeviceRose D.means disks.old disks.new ⊎ (arm_of disks.new ≡ arms.Struck) }
     ensures most { PassesMost 8 (arm_of disks.old) (arm_of disks.new) }
 {
-    let stored = start(alloc, first.copy(alloc)?);
-    let body = body(alloc, 1, first)?;
+    let base = first.copy(alloc)?;
+    match body(alloc, 1, first) {
+        Ok(body) => match write_body(disks, first, &body) {
+            Ok(()) => {
+                let end = body.len() as u64;
+                drop(body);
+                let wal = WalFile {
+                    file: FileNo::One,
+                    generation: 1,
+                    end,
+                };
+                Ok((wal, start(alloc, base)))
+            }
+            Err(error) => {
+                drop(body);
+                drop(base);
+                Err(error)
+            }
+        },
+        Err(NoMemory) => {
+            drop(base);
+            Err(OpenError::NoMemory)
+        }
+    }
+}
+
+/// Writes file one, which has this base and these bytes behind its first one; all memory is taken before.
+fn write_body<D: Disk>(disks: &mut DiskPair<D>, first: &Base, body: &[u8]) -> Result<(), OpenError>
+    requires closed { IsTrue D.told → generation_of (D.means (disk_at disks.old FileNo.One)).content ≡ None }
+    requires durable { IsTrue D.told → Only (D.means (disk_at disks.old FileNo.One)).content (D.means (disk_at disks.old FileNo.One)).images }
+    requires body { body.now ≡ body_bytes 1 first.now ++ 0 ∷ [] }
+    ensures two { disk_at disks.new FileNo.Two ≡ disk_at disks.old FileNo.Two }
+    ensures fits { length (base_bytes first.now) < 2 ^ 64 }
+    ensures written { IsTrue D.told → OnOk result ((D.means (disk_at disks.new FileNo.One)).content ≡ file_bytes 1 first.now []) }
+    ensures at_rest { IsTrue D.told → OnOk result (IsAtRest (D.means (disk_at disks.new FileNo.One)) (length body.now)) }
+    ensures moments { IsTrue D.told → LeavesOnly (D.means (disk_at disks.old FileNo.One)) (D.means (disk_at disks.new FileNo.One)) (IsBegun first.now) }
+    ensures no_memory { IsTrue D.told → IsErrOf result errors.NoMemory → (D.means (disk_at disks.new FileNo.One)).content ≡ (D.means (disk_at disks.old FileNo.One)).content }
+    ensures refusals { IfErr result (λ e. (e ≡ errors.Disk) ⊎ (e ≡ errors.NoMemory)) }
+    ensures later { Later D.means disks.old disks.new }
+    ensures cause { IsErrOf result errors.Disk → PairRose D.means disks.old disks.new }
+    ensures by { IsErrOf result errors.Disk → DeviceRose D.means disks.old disks.new ⊎ (arm_of disks.new ≡ arms.Struck) }
+    ensures most { PassesMost 8 (arm_of disks.old) (arm_of disks.new) }
+{
     disks.ready(FileNo::One, body.len() as u64 + 2, 8)?;
     begin_replace(disks, FileNo::One, 0)?;
-    finish_replace(disks, FileNo::One, 0, &body)?;
-    let wal = WalFile {
-        file: FileNo::One,
-        generation: 1,
-        end: body.len() as u64,
-    };
-    Ok((wal, stored))
+    finish_replace(disks, FileNo::One, 0, body)?;
+    Ok(())
 }
 
 /// Syncs both files, and reads them.
@@ -170,8 +206,13 @@ fn look<D: Disk>(alloc: Global, disks: &mut DiskPair<D>) -> Result<(Vec<u8>, Vec
     ensures most { PassesMost 2 (arm_of disks.old) (arm_of disks.new) }
 {
     let one = read_synced(alloc, disks, FileNo::One)?;
-    let two = read_synced(alloc, disks, FileNo::Two)?;
-    Ok((one, two))
+    match read_synced(alloc, disks, FileNo::Two) {
+        Ok(two) => Ok((one, two)),
+        Err(error) => {
+            drop(one);
+            Err(error)
+        }
+    }
 }
 
 /// Syncs a file, and reads it.
@@ -230,7 +271,14 @@ fn read_whole<D: Disk>(
 {
     let len = disks.len(file)?;
     let mut bytes = vec![in alloc; 0u8; len as usize]?;
-    let count = disks.read(file, 0, &mut bytes)?;
-    bytes.truncate(count);
-    Ok(bytes)
+    match disks.read(file, 0, &mut bytes) {
+        Ok(count) => {
+            bytes.truncate(count);
+            Ok(bytes)
+        }
+        Err(Failed) => {
+            drop(bytes);
+            Err(OpenError::Disk)
+        }
+    }
 }

@@ -1,11 +1,11 @@
 // The other file takes a new base, in eight changing calls.
 ghost use Rattle.std.specs.Prelude.{◌≡◌, ◌≤◌, ◌<◌, ◌+◌, ◌++◌, ◌∷◌, [], Some, List, ℕ, length, take, drop, IsTrue, IfOk, OnOk, OnErr};
-ghost use Rattle.rq_outside.specs.Disk.{Only, LeavesOnly, HasRoom, Uses};
+ghost use Rattle.rq_outside.specs.Disk.{Cut, Only, LeavesOnly, HasRoom, Uses};
 ghost use Rattle.rq_outside.specs.Pair.{other, disk_at, arm_of, UsedCalls, PairCause};
 ghost use Rattle.rq_wal.specs.Calls.{PassesMost};
 ghost use Rattle.rq_wal.specs.Replace.{generation_of, IsBelow, IsOldOrNew};
 
-use crate::synced::{cut_synced, write_synced};
+use crate::synced::write_synced;
 use rq_outside::{Disk, DiskPair, Failed, FileNo};
 
 /// Empties a file whose generation is below the current one's, and closes its gate.
@@ -54,5 +54,24 @@ pub fn finish_replace<D: Disk>(
 {
     write_synced(disks, file, 1, rest)?;
     write_synced(disks, file, 0, &[1])?;
+    Ok(())
+}
+
+/// Cuts a file, and syncs it.
+fn cut_synced<D: Disk>(disks: &mut DiskPair<D>, file: FileNo, to: u64) -> Result<(), Failed>
+    requires durable { IsTrue D.told → Only (D.means (disk_at disks.old file)).content (D.means (disk_at disks.old file)).images }
+    requires place { IsTrue D.told → to ≤ length (D.means (disk_at disks.old file)).content }
+    requires room { HasRoom (D.means (disk_at disks.old file)) 0 2 }
+    ensures other { disk_at disks.new (other file) ≡ disk_at disks.old (other file) }
+    ensures cut { IsTrue D.told → OnOk result ((D.means (disk_at disks.new file)).content ≡ take to (D.means (disk_at disks.old file)).content) }
+    ensures durable { IsTrue D.told → OnOk result (Only (D.means (disk_at disks.new file)).content (D.means (disk_at disks.new file)).images) }
+    ensures any_moment { IsTrue D.told → LeavesOnly (D.means (disk_at disks.old file)) (D.means (disk_at disks.new file)) (Cut to (D.means (disk_at disks.old file)).content) }
+    ensures room { Uses 0 2 (D.means (disk_at disks.old file)) (D.means (disk_at disks.new file)) }
+    ensures cause { PairCause D.means disks.old disks.new result }
+    ensures arm { OnOk result (UsedCalls 2 (arm_of disks.old) (arm_of disks.new)) }
+    ensures most { PassesMost 2 (arm_of disks.old) (arm_of disks.new) }
+{
+    disks.cut(file, to)?;
+    disks.sync(file)?;
     Ok(())
 }

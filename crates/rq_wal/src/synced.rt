@@ -1,6 +1,6 @@
 // A changing call and the sync behind it.
 ghost use Rattle.std.specs.Prelude.{◌≡◌, ◌≤◌, ◌<◌, ◌++◌, List, ℕ, length, take, drop, IsTrue, IfOk, OnOk, OnErr};
-ghost use Rattle.rq_outside.specs.Disk.{Torn, Cut, Holds, Only, LeavesOnly, HasRoom, Uses};
+ghost use Rattle.rq_outside.specs.Disk.{Torn, Holds, Only, LeavesOnly, HasRoom, Uses};
 ghost use Rattle.rq_outside.specs.Pair.{other, disk_at, arm_of, UsedCalls, PairCause};
 ghost use Rattle.rq_wal.specs.Calls.{PassesMost};
 
@@ -27,25 +27,6 @@ pub fn write_synced<D: Disk>(
     ensures most { PassesMost 2 (arm_of disks.old) (arm_of disks.new) }
 {
     disks.write_at(file, at, piece)?;
-    disks.sync(file)?;
-    Ok(())
-}
-
-/// Cuts a file, and syncs it.
-pub fn cut_synced<D: Disk>(disks: &mut DiskPair<D>, file: FileNo, to: u64) -> Result<(), Failed>
-    requires durable { IsTrue D.told → Only (D.means (disk_at disks.old file)).content (D.means (disk_at disks.old file)).images }
-    requires place { IsTrue D.told → to ≤ length (D.means (disk_at disks.old file)).content }
-    requires room { HasRoom (D.means (disk_at disks.old file)) 0 2 }
-    ensures other { disk_at disks.new (other file) ≡ disk_at disks.old (other file) }
-    ensures cut { IsTrue D.told → OnOk result ((D.means (disk_at disks.new file)).content ≡ take to (D.means (disk_at disks.old file)).content) }
-    ensures durable { IsTrue D.told → OnOk result (Only (D.means (disk_at disks.new file)).content (D.means (disk_at disks.new file)).images) }
-    ensures any_moment { IsTrue D.told → LeavesOnly (D.means (disk_at disks.old file)) (D.means (disk_at disks.new file)) (Cut to (D.means (disk_at disks.old file)).content) }
-    ensures room { Uses 0 2 (D.means (disk_at disks.old file)) (D.means (disk_at disks.new file)) }
-    ensures cause { PairCause D.means disks.old disks.new result }
-    ensures arm { OnOk result (UsedCalls 2 (arm_of disks.old) (arm_of disks.new)) }
-    ensures most { PassesMost 2 (arm_of disks.old) (arm_of disks.new) }
-{
-    disks.cut(file, to)?;
     disks.sync(file)?;
     Ok(())
 }

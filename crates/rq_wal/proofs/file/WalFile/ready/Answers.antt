@@ -1,33 +1,7 @@
-use Rattle.std.proofs.Common.{All, List, ℕ, sym, subst, refl}
+use Rattle.std.proofs.Common.{All, List, ℕ, sym, subst}
 use Rattle.rq_wal.specs.Gate.{IsPiece}
-use Rattle.rq_outside.specs.Pair.{disk_at}
-use Rattle.rq_wal.proofs.AtRest.{stays_at_rest}
-use Rattle.rq_wal.proofs.ImagesNow.{no_more}
-use Rattle.rq_wal.proofs.LogMore.{current_kept}
 use Rattle.rq_wal.proofs.Framed.{all_pieces}
 use Rattle.rq_wal.proofs.file.WalFile.ready.Goals as goal
 
 pub invariant_of-result : goal.invariant_of-result
 invariant_of-result g c = subst (λ (ps : List (List ℕ)). All IsPiece ps) (sym c.in_ok-pieces.ensures) (all_pieces c.args.frames.now)
-
-pub returns-in_err-ready-clause-at_rest : goal.returns-in_err-ready-clause-at_rest
-returns-in_err-ready-clause-at_rest g c told rest =
-    stays_at_rest (g.D.Disk.means (disk_at c.args.disks.now c.args.self.now.file)) (g.D.Disk.means (disk_at c.ready.new.self c.args.self.now.file)) c.args.self.now.end (c.ready.ensures.same told) rest
-
-pub returns-clause-at_rest : goal.returns-clause-at_rest
-returns-clause-at_rest g c told rest =
-    stays_at_rest (g.D.Disk.means (disk_at c.args.disks.now c.args.self.now.file)) (g.D.Disk.means (disk_at c.ready.new.self c.args.self.now.file)) c.args.self.now.end (c.ready.ensures.same told) rest
-
-pub returns-in_err-ready-clause-current : goal.returns-in_err-ready-clause-current
-returns-in_err-ready-clause-current g c told first stored current =
-    current_kept g.D.Disk.means first c.args.disks.now c.ready.new.self c.args.self.now _ stored refl c.ready.ensures.other (c.ready.ensures.same told) current
-
-pub returns-clause-current : goal.returns-clause-current
-returns-clause-current g c told first stored current =
-    current_kept g.D.Disk.means first c.args.disks.now c.ready.new.self c.args.self.now _ stored refl c.ready.ensures.other (c.ready.ensures.same told) current
-
-pub returns-in_err-ready-clause-now : goal.returns-in_err-ready-clause-now
-returns-in_err-ready-clause-now g c told first = no_more g.D.Disk.means first c.args.disks.now c.ready.new.self c.args.self.now.file c.ready.ensures.other (c.ready.ensures.same told).no_more
-
-pub returns-clause-now : goal.returns-clause-now
-returns-clause-now g c told first = no_more g.D.Disk.means first c.args.disks.now c.ready.new.self c.args.self.now.file c.ready.ensures.other (c.ready.ensures.same told).no_more

@@ -1,7 +1,7 @@
 use Rattle.rq_outside.specs.Disk.{Cut}
 use Rattle.rq_outside.specs.Pair.{disk_at}
 use Rattle.rq_wal.proofs.Moments.{changed, then_synced, cut_same}
-use Rattle.rq_wal.proofs.synced.cut_synced.Goals as goal
+use Rattle.rq_wal.proofs.replacing.cut_synced.Goals as goal
 
 pub returns-in_err-sync-clause-any_moment : goal.returns-in_err-sync-clause-any_moment
 returns-in_err-sync-clause-any_moment g c told =
