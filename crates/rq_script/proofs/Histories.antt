@@ -229,7 +229,7 @@ AppliesOne chosen book n turn =
     Stands chosen book turn.node × AllRight chosen book (at_place (n.applied + 1) turn.answers)
     × (turn.node.applied ≡ n.applied + 1) × (turn.node.commit ≡ n.commit)
 
-apply_one : (chosen : List LogEntry) (book : List Note) (n : Node) → Stands chosen book n → n.commit ≤ length chosen → n.applied < n.commit
+pub apply_one : (chosen : List LogEntry) (book : List Note) (n : Node) → Stands chosen book n → n.commit ≤ length chosen → n.applied < n.commit
     → AppliesOne chosen book n (applied_entry n (slice_get n.log n.applied))
 apply_one chosen book n stands covers less = at (slice_get n.log n.applied) refl
   where

@@ -1,6 +1,10 @@
+pub mod Answering
 pub mod Cluster
+pub mod FromAsks
 pub mod History
 pub mod Lines
+pub mod Numbering
+pub mod OpenAsks
 pub mod Preparing
 pub mod Promise
 pub mod ReadLine

@@ -1,0 +1,9 @@
+-- Which asks are open: put, and not answered yet. docs/RAFT.md, "What a run promises".
+use Rattle.std.specs.Prelude.{◌≡◌, ℕ, List, [], ◌∷◌, ◌++◌}
+use Rattle.rq_script.specs.History.{Note, Asked, Answered}
+
+-- these notes lead from these open asks to those: an ask is open from then on, behind the others, and an answer closes one that is open
+abbrev pub Opens : List ℕ → List Note → List ℕ → Type 0
+Opens before [] after = before ≡ after
+Opens before (Asked number op ∷ notes) after = Opens (before ++ number ∷ []) notes after
+Opens before (Answered number say place ∷ notes) after = (front rest : List ℕ) × (before ≡ front ++ number ∷ rest) × Opens (front ++ rest) notes after
