@@ -1,0 +1,11 @@
+pub mod Commands
+pub mod Node
+pub mod Reads
+pub mod Rules
+pub mod World
+pub mod Laws
+pub mod Promise
+pub mod Passes
+pub mod Covers
+pub mod Appends
+pub mod Answers

@@ -1,0 +1,69 @@
+-- A node, and what a rule gives: docs/RAFT.md, "The node".
+use Rattle.std.specs.Prelude.{ℕ, Bool, min, List, [], ◌∷◌, length, None}
+use Rattle.rq_engine.specs.declared.item.Item.{Item}
+use Rattle.rq_engine.specs.Database.{Database}
+use Rattle.rq_world.specs.declared.say.Say.{Say}
+use Rattle.rq_world.specs.declared.say.Answer.{Answer}
+use Rattle.rq_raft.specs.Entries.{Entries}
+use Rattle.rq_raft.specs.Node.{RaftNode, Packet, StoredRecord, Persistent}
+use Rattle.rq_world.specs.declared.log_entry.LogEntry.{LogEntry}
+use Rattle.rq_world.specs.declared.log_entry.Content.TheVariants.{NoOp}
+use Rattle.rq_world.specs.declared.waiting.Waiting.{Waiting}
+
+-- the pass of a linearizable read: the ask's number, the index that must be applied, the probe above which replies count, and the term
+pub record Pass : Type 0 where
+  pub id : ℕ
+  pub least : ℕ
+  pub mark : ℕ
+  pub term : ℕ
+
+-- a linearizable read that waits for its pass
+pub record PendingRead : Type 0 where
+  pub pass : Pass
+  pub items : List Item
+  pub asked : ℕ  -- the moment at which it was put
+  pub timeout : ℕ
+
+-- a queued write that isn't appended yet: its sequence number, its ask's number and list, and whether that ask still waits
+pub record QueuedWrite : Type 0 where
+  pub sequence : ℕ
+  pub number : ℕ
+  pub items : List Item
+  pub waits : Bool
+  pub asked : ℕ  -- the moment at which it was put
+  pub timeout : ℕ
+
+-- the part that agrees with others, how often it booted, the asks whose entry isn't applied yet, the reads that wait for their pass, the queue, and the replica
+pub record Node : Type 0 where
+  pub raft : RaftNode LogEntry
+  pub boot : ℕ
+  pub waiting : List Waiting  -- in rising order of indexes
+  pub pending_reads : List PendingRead  -- in the order of their asks
+  pub queue : List QueuedWrite  -- in rising order of sequence numbers
+  pub last : ℕ  -- the last sequence number that was given since the start
+  pub database : Database  -- what the applied entries made of an empty database
+
+abbrev pub persistent_of : Node → Persistent LogEntry
+persistent_of n = record { term = n.raft.term; vote = n.raft.vote; boot = n.boot; base = n.raft.base; log = n.raft.log }
+
+-- the entries of the log, at most 64 to a packet; no configuration stands among them yet
+abbrev pub log_entries : Entries LogEntry
+log_entries = record {
+  term_of = λ e. e.term;
+  members_of = λ e. None;
+  empty = λ term. record { term = term; content = NoOp };
+  fit = λ es. min 64 (length es);
+}
+
+-- the node after a rule, what it makes durable, its packets and its answers, each in order
+pub record Turn : Type 0 where
+  pub node : Node
+  pub stored : List (StoredRecord LogEntry)
+  pub packets : List (Packet LogEntry)
+  pub answers : List Answer
+
+abbrev pub unchanged : Node → Turn
+unchanged n = record { node = n; stored = []; packets = []; answers = [] }
+
+abbrev pub says : Node → ℕ → Say → Turn
+says n number say = record (unchanged n) { answers = record { number = number; say = say } ∷ [] }
