@@ -19,6 +19,12 @@ use Rattle.rq_grammar.specs.declared.place.Stage.{Stage}
 use Rattle.rq_grammar.specs.declared.place.Stage.TheVariants as stage
 use Rattle.rq_grammar.specs.declared.place.Place.{Place}
 use Rattle.rq_grammar.specs.declared.place.Place.TheVariants as p
+use Rattle.rq_grammar.specs.declared.place.CreatePlace.TheVariants as cp
+use Rattle.rq_grammar.specs.declared.place.DropPlace.TheVariants as dp
+use Rattle.rq_grammar.specs.declared.place.InsertPlace.TheVariants as ip
+use Rattle.rq_grammar.specs.declared.place.UpdatePlace.TheVariants as up
+use Rattle.rq_grammar.specs.declared.place.DeletePlace.TheVariants as del
+use Rattle.rq_grammar.specs.declared.place.SelectPlace.TheVariants as sp
 use Rattle.rq_grammar.specs.declared.frame.Clause.{Clause}
 use Rattle.rq_grammar.specs.declared.frame.Clause.TheVariants as c
 use Rattle.rq_grammar.specs.declared.frame.Frame.TheVariants as f
@@ -28,7 +34,7 @@ use Rattle.rq_grammar.specs.Words.{Text, Tokens, Name, bare, quoted}
 use Rattle.rq_grammar.specs.Statements as S
 use Rattle.rq_grammar.specs.Statements.{plain_column, rising, falling}
 use Rattle.rq_grammar.specs.Stack.{Stack, reduce, split}
-use Rattle.rq_grammar.specs.Places.{flat, inside, name_of, on_name, unset, new_table, target, insert, query, add_result, add_term, select_into, selected, place_step, place_finish}
+use Rattle.rq_grammar.specs.Places.{flat, inside, name_of, on_name, unset, new_table, target, insert, query, add_result, add_term, select_into, selected, place_step, create_step, drop_step, insert_step, update_step, delete_step, select_step, place_finish}
 use Rattle.rq_grammar.specs.Machine.{step, finish, parse, done, ended_at, ended_on, end_at, end_on, clause_on, land, landed, landed_end, Start}
 use Rattle.rq_grammar.proofs.Reduce.{go, stop, went, never, never_end, as_step, as_end}
 use Rattle.rq_grammar.proofs.Complete.{Then, complete, complete_some, row_list}
@@ -64,8 +70,8 @@ done_ends (t.Word n w.Order) h m st b = refl
 done_ends (t.Word n w.Limit) h m st b = refl
 done_ends u h m st b = absurd (cc)
 
-tail_ends : (g : Stage) (q : Query) (u : Token) (next : State) → place_step (p.Tail g q) u ≡ Some next → may_end u ≡ true
-unfolding place_step
+tail_ends : (g : Stage) (q : Query) (u : Token) (next : State) → place_step (p.Select (sp.Tail g q)) u ≡ Some next → may_end u ≡ true
+unfolding place_step create_step drop_step insert_step update_step delete_step select_step
 tail_ends g q t.Comma next h = refl
 tail_ends g q t.Semi next h = refl
 tail_ends g q (t.Word n w.From) next h = refl
@@ -78,15 +84,15 @@ tail_ends stage.Filtered q u next h = absurd (cc)
 tail_ends stage.Ordered q u next h = absurd (cc)
 tail_ends stage.Limited q u next h = absurd (cc)
 
-sets_ends : (n : Text) (is : List (Text × Expr)) (u : Token) (next : State) → place_step (p.Sets n is) u ≡ Some next → may_end u ≡ true
-unfolding place_step
+sets_ends : (n : Text) (is : List (Text × Expr)) (u : Token) (next : State) → place_step (p.Update (up.Sets n is)) u ≡ Some next → may_end u ≡ true
+unfolding place_step create_step drop_step insert_step update_step delete_step select_step
 sets_ends n is t.Comma next h = refl
 sets_ends n is t.Semi next h = refl
 sets_ends n is (t.Word m w.Where) next h = refl
 sets_ends n is u next h = absurd (cc)
 
 ended_ends : (r : Stmt) (u : Token) (next : State) → place_step (p.Ended r) u ≡ Some next → may_end u ≡ true
-unfolding place_step
+unfolding place_step create_step drop_step insert_step update_step delete_step select_step
 ended_ends r t.Semi next h = refl
 ended_ends r u next h = absurd (cc)
 
@@ -147,12 +153,12 @@ clause_step x a u toks next r h ends k m st' a' low same = go _ _ _ _ r (ends m 
 -- ---- the end
 
 complete_ended : {y : Tokens} → S.Semis y → (r : Stmt) → parse (s.Flat (p.Ended r)) y ≡ Ok r
-unfolding step finish place_step place_finish
+unfolding step finish place_step create_step drop_step insert_step update_step delete_step select_step place_finish
 complete_ended S.end r = stop _ r refl
 complete_ended (S.semi p) r = go _ _ _ _ r refl (complete_ended p r)
 
-complete_selected : {y : Tokens} → S.Semis y → (g : Stage) (q : Query) → parse (s.Flat (p.Tail g q)) y ≡ Ok (selected q)
-unfolding step finish place_step place_finish
+complete_selected : {y : Tokens} → S.Semis y → (g : Stage) (q : Query) → parse (s.Flat (p.Select (sp.Tail g q))) y ≡ Ok (selected q)
+unfolding step finish place_step create_step drop_step insert_step update_step delete_step select_step place_finish
 complete_selected S.end g q = stop _ _ refl
 complete_selected (S.semi p) stage.Results q = go _ _ _ _ _ refl (complete_ended p _)
 complete_selected (S.semi p) stage.Source q = go _ _ _ _ _ refl (complete_ended p _)
@@ -162,14 +168,14 @@ complete_selected (S.semi p) stage.Limited q = go _ _ _ _ _ refl (complete_ended
 
 -- ---- SELECT
 
-result_as_operand : (q : Query) (y : Tokens) (r : Stmt) → parse (s.Operand (f.Clause (c.Results q) ∷ [])) y ≡ Ok r → parse (s.Flat (p.Result q)) y ≡ Ok r
-unfolding step finish place_step
+result_as_operand : (q : Query) (y : Tokens) (r : Stmt) → parse (s.Operand (f.Clause (c.Results q) ∷ [])) y ≡ Ok r → parse (s.Flat (p.Select (sp.Result q))) y ≡ Ok r
+unfolding step finish place_step create_step drop_step insert_step update_step delete_step select_step
 result_as_operand q [] r h = absurd (never_end _ r refl h)
 result_as_operand q (t.Star ∷ us) r h = absurd (never _ _ us r refl h)
 result_as_operand q (u ∷ us) r h = as_step _ _ _ us r refl h
 
-complete_result : {x y : Tokens} {i : ResultItem} → S.Result x i y → (q : Query) (r : Stmt) → parse (s.Flat (p.Tail stage.Results (add_result q i))) y ≡ Ok r → parse (s.Flat (p.Result q)) x ≡ Ok r
-unfolding step place_step done clause_on
+complete_result : {x y : Tokens} {i : ResultItem} → S.Result x i y → (q : Query) (r : Stmt) → parse (s.Flat (p.Select (sp.Tail stage.Results (add_result q i)))) y ≡ Ok r → parse (s.Flat (p.Select (sp.Result q))) x ≡ Ok r
+unfolding step place_step create_step drop_step insert_step update_step delete_step select_step done clause_on
 complete_result S.all q r h = go _ _ _ _ r refl h
 complete_result (S.value {a = a} p) q r h = result_as_operand q _ r (complete p (f.Clause (c.Results q) ∷ []) (omega arith) (omega arith) r (clause_as (c.Results q) a _ refl _ r h))
 complete_result (S.value_as {a = a} p n) q r h = result_as_operand q _ r (complete p (f.Clause (c.Results q) ∷ []) (omega arith) (omega arith) r (clause_step (c.Results q) a _ _ _ r refl (λ m st b. refl) (go _ _ _ _ r (on_named n _) h)))
@@ -177,12 +183,12 @@ complete_result (S.value_as {a = a} p n) q r h = result_as_operand q _ r (comple
 abbrev results : Query → List ResultItem → Query
 results q is = record q { select = record q.select { results = is } }
 
-complete_results : {x y : Tokens} {is : List ResultItem} → S.ResultList x is y → (q : Query) (r : Stmt) → parse (s.Flat (p.Tail stage.Results (results q is))) y ≡ Ok r → parse (s.Flat (p.Result (results q []))) x ≡ Ok r
-unfolding step place_step
+complete_results : {x y : Tokens} {is : List ResultItem} → S.ResultList x is y → (q : Query) (r : Stmt) → parse (s.Flat (p.Select (sp.Tail stage.Results (results q is)))) y ≡ Ok r → parse (s.Flat (p.Select (sp.Result (results q [])))) x ≡ Ok r
+unfolding step place_step create_step drop_step insert_step update_step delete_step select_step
 complete_results (S.first_result p) q r h = complete_result p (results q []) r h
 complete_results (S.next_result {is = is} p p') q r h = complete_results p q r (go _ _ _ _ r refl (complete_result p' (results q is) r h))
 
-complete_term : {x y : Tokens} {i : OrderTerm} → S.Term x i y → (q : Query) (r : Stmt) → parse (s.Flat (p.Tail stage.Ordered (add_term q i))) y ≡ Ok r → parse (s.Operand (f.Clause (c.Order q) ∷ [])) x ≡ Ok r
+complete_term : {x y : Tokens} {i : OrderTerm} → S.Term x i y → (q : Query) (r : Stmt) → parse (s.Flat (p.Select (sp.Tail stage.Ordered (add_term q i)))) y ≡ Ok r → parse (s.Operand (f.Clause (c.Order q) ∷ [])) x ≡ Ok r
 unfolding done clause_on
 complete_term (S.unmarked {a = a} p) q r h = complete p (f.Clause (c.Order q) ∷ []) (omega arith) (omega arith) r (clause_as (c.Order q) a _ refl _ r h)
 complete_term (S.asc {a = a} p) q r h = complete p (f.Clause (c.Order q) ∷ []) (omega arith) (omega arith) r (clause_step (c.Order q) a _ _ _ r refl (λ m st b. refl) h)
@@ -191,8 +197,8 @@ complete_term (S.desc {a = a} p) q r h = complete p (f.Clause (c.Order q) ∷ []
 abbrev terms : Query → List OrderTerm → Query
 terms q is = record q { select = record q.select { order = is } }
 
-complete_terms : {x y : Tokens} {is : List OrderTerm} → S.TermList x is y → (q : Query) (r : Stmt) → parse (s.Flat (p.Tail stage.Ordered (terms q is))) y ≡ Ok r → parse (s.Operand (f.Clause (c.Order (terms q [])) ∷ [])) x ≡ Ok r
-unfolding step place_step
+complete_terms : {x y : Tokens} {is : List OrderTerm} → S.TermList x is y → (q : Query) (r : Stmt) → parse (s.Flat (p.Select (sp.Tail stage.Ordered (terms q is)))) y ≡ Ok r → parse (s.Operand (f.Clause (c.Order (terms q [])) ∷ [])) x ≡ Ok r
+unfolding step place_step create_step drop_step insert_step update_step delete_step select_step
 complete_terms (S.first_term p) q r h = complete_term p (terms q []) r h
 complete_terms (S.next_term {is = is} p p') q r h = complete_terms p q r (go _ _ _ _ r refl (complete_term p' (terms q is) r h))
 
@@ -204,23 +210,23 @@ reach stage.Filtered = 2
 reach stage.Ordered = 3
 reach stage.Limited = 4
 
-at_limit : (g : Stage) → reach g ≤ 3 → (q : Query) (n : Text) → place_step (p.Tail g q) (t.Word n w.Limit) ≡ inside (c.Limit q)
-unfolding place_step
+at_limit : (g : Stage) → reach g ≤ 3 → (q : Query) (n : Text) → place_step (p.Select (sp.Tail g q)) (t.Word n w.Limit) ≡ inside (c.Limit q)
+unfolding place_step create_step drop_step insert_step update_step delete_step select_step
 at_limit stage.Results h q n = refl
 at_limit stage.Source h q n = refl
 at_limit stage.Filtered h q n = refl
 at_limit stage.Ordered h q n = refl
 at_limit stage.Limited h q n = absurd (omega arith)
 
-at_order : (g : Stage) → reach g ≤ 2 → (q : Query) (n : Text) → place_step (p.Tail g q) (t.Word n w.Order) ≡ flat (p.Order q)
-unfolding place_step
+at_order : (g : Stage) → reach g ≤ 2 → (q : Query) (n : Text) → place_step (p.Select (sp.Tail g q)) (t.Word n w.Order) ≡ flat (p.Select (sp.Order q))
+unfolding place_step create_step drop_step insert_step update_step delete_step select_step
 at_order stage.Results h q n = refl
 at_order stage.Source h q n = refl
 at_order stage.Filtered h q n = refl
 at_order g h q n = absurd (omega arith)
 
-at_where : (g : Stage) → reach g ≤ 1 → (q : Query) (n : Text) → place_step (p.Tail g q) (t.Word n w.Where) ≡ inside (c.Filter q)
-unfolding place_step
+at_where : (g : Stage) → reach g ≤ 1 → (q : Query) (n : Text) → place_step (p.Select (sp.Tail g q)) (t.Word n w.Where) ≡ inside (c.Filter q)
+unfolding place_step create_step drop_step insert_step update_step delete_step select_step
 at_where stage.Results h q n = refl
 at_where stage.Source h q n = refl
 at_where g h q n = absurd (omega arith)
@@ -228,22 +234,22 @@ at_where g h q n = absurd (omega arith)
 abbrev limits : Query → Option Expr → Option Expr → Query
 limits q a b = record q { select = record q.select { limit = a; offset = b } }
 
-complete_limits : {x y : Tokens} {a b : Option Expr} → S.Limits x a b y → S.Semis y → (g : Stage) → reach g ≤ 3 → (q : Query) → parse (s.Flat (p.Tail g (limits q None None))) x ≡ Ok (selected (limits q a b))
+complete_limits : {x y : Tokens} {a b : Option Expr} → S.Limits x a b y → S.Semis y → (g : Stage) → reach g ≤ 3 → (q : Query) → parse (s.Flat (p.Select (sp.Tail g (limits q None None)))) x ≡ Ok (selected (limits q a b))
 unfolding step done clause_on
 complete_limits S.no_limit w g h q = complete_selected w g _
 complete_limits (S.limit {a = a} p) w g h q = go _ _ _ _ _ (at_limit g h _ _) (complete p (f.Clause (c.Limit (limits q None None)) ∷ []) (omega arith) (omega arith) _ (clause_as (c.Limit (limits q None None)) a _ refl _ _ (complete_selected w _ _)))
 complete_limits (S.limit_offset {a = a} {b = b} p p') w g h q = go _ _ _ _ _ (at_limit g h _ _) (complete p (f.Clause (c.Limit (limits q None None)) ∷ []) (omega arith) (omega arith) _ (clause_step (c.Limit (limits q None None)) a _ _ _ _ refl (λ m st b. refl)
     (complete p' (f.Clause (c.Offset (limits q (Some a) None)) ∷ []) (omega arith) (omega arith) _ (clause_as (c.Offset (limits q (Some a) None)) b _ refl _ _ (complete_selected w _ _)))))
 
-complete_order : {x x' y : Tokens} {is : List OrderTerm} {a b : Option Expr} → S.OrderBy x is x' → S.Limits x' a b y → S.Semis y → (g : Stage) → reach g ≤ 2 → (q : Query) → parse (s.Flat (p.Tail g (limits (terms q []) None None))) x ≡ Ok (selected (limits (terms q is) a b))
-unfolding step place_step
+complete_order : {x x' y : Tokens} {is : List OrderTerm} {a b : Option Expr} → S.OrderBy x is x' → S.Limits x' a b y → S.Semis y → (g : Stage) → reach g ≤ 2 → (q : Query) → parse (s.Flat (p.Select (sp.Tail g (limits (terms q []) None None)))) x ≡ Ok (selected (limits (terms q is) a b))
+unfolding step place_step create_step drop_step insert_step update_step delete_step select_step
 complete_order S.no_order l w g h q = complete_limits l w g (omega arith) (terms q [])
 complete_order (S.order_by p) l w g h q = go _ _ _ _ _ (at_order g h _ _) (go _ _ _ _ _ refl (complete_terms p (limits q None None) _ (complete_limits l w stage.Ordered (omega arith) (terms q _))))
 
 abbrev filtered : Query → Option Expr → Query
 filtered q a = record q { select = record q.select { filter = a } }
 
-complete_where : {x x1 x2 y : Tokens} {f : Option Expr} {is : List OrderTerm} {a b : Option Expr} → S.Where x f x1 → S.OrderBy x1 is x2 → S.Limits x2 a b y → S.Semis y → (g : Stage) → reach g ≤ 1 → (q : Query) → parse (s.Flat (p.Tail g (limits (terms (filtered q None) []) None None))) x ≡ Ok (selected (limits (terms (filtered q f) is) a b))
+complete_where : {x x1 x2 y : Tokens} {f : Option Expr} {is : List OrderTerm} {a b : Option Expr} → S.Where x f x1 → S.OrderBy x1 is x2 → S.Limits x2 a b y → S.Semis y → (g : Stage) → reach g ≤ 1 → (q : Query) → parse (s.Flat (p.Select (sp.Tail g (limits (terms (filtered q None) []) None None)))) x ≡ Ok (selected (limits (terms (filtered q f) is) a b))
 unfolding step
 complete_where S.no_where o l w g h q = complete_order o l w g (omega arith) (filtered q None)
 complete_where (S.filter {a = a} p) o l w g h q = go _ _ _ _ _ (at_where g h _ _) (complete p _ (omega arith) (omega arith) _ (clause_as (c.Filter (limits (terms (filtered q None) []) None None)) a _ refl _ _ (complete_order o l w stage.Filtered (omega arith) (filtered q (Some a)))))
@@ -251,123 +257,123 @@ complete_where (S.filter {a = a} p) o l w g h q = go _ _ _ _ _ (at_where g h _ _
 abbrev sourced : Query → Option Text → Query
 sourced q n = record q { select = record q.select { table = n } }
 
-complete_from : {x x1 x2 x3 y : Tokens} {n : Option Text} {f : Option Expr} {is : List OrderTerm} {a b : Option Expr} → S.From x n x1 → S.Where x1 f x2 → S.OrderBy x2 is x3 → S.Limits x3 a b y → S.Semis y → (q : Query) → parse (s.Flat (p.Tail stage.Results (limits (terms (filtered (sourced q None) None) []) None None))) x ≡ Ok (selected (limits (terms (filtered (sourced q n) f) is) a b))
-unfolding step place_step
+complete_from : {x x1 x2 x3 y : Tokens} {n : Option Text} {f : Option Expr} {is : List OrderTerm} {a b : Option Expr} → S.From x n x1 → S.Where x1 f x2 → S.OrderBy x2 is x3 → S.Limits x3 a b y → S.Semis y → (q : Query) → parse (s.Flat (p.Select (sp.Tail stage.Results (limits (terms (filtered (sourced q None) None) []) None None)))) x ≡ Ok (selected (limits (terms (filtered (sourced q n) f) is) a b))
+unfolding step place_step create_step drop_step insert_step update_step delete_step select_step
 complete_from S.no_from u o l w q = complete_where u o l w stage.Results (omega arith) (sourced q None)
 complete_from (S.from {n = n} k) u o l w q = go _ _ _ _ _ refl (go _ _ _ _ _ (on_named k _) (complete_where u o l w stage.Source (omega arith) (sourced q (Some n))))
 
 -- behind any place from which SELECT leads to a query
-complete_select : {x y : Tokens} {q : SelectStmt} → S.Select x q y → S.Semis y → (z : Place) (i : Option Target) → ((n : Text) → place_step z (t.Word n w.Select) ≡ flat (p.Result (query i))) → parse (s.Flat z) x ≡ Ok (select_into i q)
+complete_select : {x y : Tokens} {q : SelectStmt} → S.Select x q y → S.Semis y → (z : Place) (i : Option Target) → ((n : Text) → place_step z (t.Word n w.Select) ≡ flat (p.Select (sp.Result (query i)))) → parse (s.Flat z) x ≡ Ok (select_into i q)
 unfolding step
 complete_select (S.select {m = m} k f u o l) w z i h = go _ _ _ _ _ (h m) (complete_results k (query i) _ (complete_from f u o l w (results (query i) _)))
 
 -- ---- CREATE TABLE, DROP TABLE
 
-complete_rules : {c d : ColumnDef} {x y : Tokens} → S.Rules c x d y → (z : NewTable) (r : Stmt) → parse (s.Flat (p.Column z d)) y ≡ Ok r → parse (s.Flat (p.Column z c)) x ≡ Ok r
-unfolding step place_step
+complete_rules : {c d : ColumnDef} {x y : Tokens} → S.Rules c x d y → (z : NewTable) (r : Stmt) → parse (s.Flat (p.Create (cp.Column z d))) y ≡ Ok r → parse (s.Flat (p.Create (cp.Column z c))) x ≡ Ok r
+unfolding step place_step create_step drop_step insert_step update_step delete_step select_step
 complete_rules S.no_more z r h = h
-complete_rules (S.primary_key {c = c} e k) z r h = go _ _ _ _ r (ap (λ b. unset b (p.ColumnPrimary z c)) e) (go _ _ _ _ r refl (complete_rules k z r h))
-complete_rules (S.not_null {c = c} e k) z r h = go _ _ _ _ r (ap (λ b. unset b (p.ColumnNot z c)) e) (go _ _ _ _ r refl (complete_rules k z r h))
-complete_rules (S.unique {c = c} e k) z r h = go _ _ _ _ r (ap (λ b. unset b (p.Column z (record c { unique = true }))) e) (complete_rules k z r h)
+complete_rules (S.primary_key {c = c} e k) z r h = go _ _ _ _ r (ap (λ b. unset b (p.Create (cp.ColumnPrimary z c))) e) (go _ _ _ _ r refl (complete_rules k z r h))
+complete_rules (S.not_null {c = c} e k) z r h = go _ _ _ _ r (ap (λ b. unset b (p.Create (cp.ColumnNot z c))) e) (go _ _ _ _ r refl (complete_rules k z r h))
+complete_rules (S.unique {c = c} e k) z r h = go _ _ _ _ r (ap (λ b. unset b (p.Create (cp.Column z (record c { unique = true })))) e) (complete_rules k z r h)
 
-complete_kind : {v : Word} {k : ColumnKind} → S.Kind v k → (n m : Text) (y : Tokens) (z : NewTable) (r : Stmt) → parse (s.Flat (p.Column z (plain_column n k))) y ≡ Ok r → parse (s.Flat (p.ColumnNamed z n)) (t.Word m v ∷ y) ≡ Ok r
-unfolding step place_step
+complete_kind : {v : Word} {k : ColumnKind} → S.Kind v k → (n m : Text) (y : Tokens) (z : NewTable) (r : Stmt) → parse (s.Flat (p.Create (cp.Column z (plain_column n k)))) y ≡ Ok r → parse (s.Flat (p.Create (cp.ColumnNamed z n))) (t.Word m v ∷ y) ≡ Ok r
+unfolding step place_step create_step drop_step insert_step update_step delete_step select_step
 complete_kind S.integer_kind n m y z r h = go _ _ _ _ r refl h
 complete_kind S.text_kind n m y z r h = go _ _ _ _ r refl h
 complete_kind S.blob_kind n m y z r h = go _ _ _ _ r refl h
 
-complete_column : {x y : Tokens} {d : ColumnDef} → S.Column x d y → (z : NewTable) (r : Stmt) → parse (s.Flat (p.Column z d)) y ≡ Ok r → parse (s.Flat (p.ColumnStart z)) x ≡ Ok r
-unfolding step place_step
+complete_column : {x y : Tokens} {d : ColumnDef} → S.Column x d y → (z : NewTable) (r : Stmt) → parse (s.Flat (p.Create (cp.Column z d))) y ≡ Ok r → parse (s.Flat (p.Create (cp.ColumnStart z))) x ≡ Ok r
+unfolding step place_step create_step drop_step insert_step update_step delete_step select_step
 complete_column (S.column n k p) z r h = go _ _ _ _ r (on_named n _) (complete_kind k _ _ _ z r (complete_rules p z r h))
 
 abbrev columns : NewTable → List ColumnDef → NewTable
 columns z ds = record z { columns = ds }
 
-complete_columns : {x y : Tokens} {ds : List ColumnDef} → S.ColumnList x ds y → (z : NewTable) (r : Stmt) → ((cs : List ColumnDef) (d : ColumnDef) → cs ++ d ∷ [] ≡ ds → parse (s.Flat (p.Column (columns z cs) d)) y ≡ Ok r) → parse (s.Flat (p.ColumnStart (columns z []))) x ≡ Ok r
-unfolding step place_step
+complete_columns : {x y : Tokens} {ds : List ColumnDef} → S.ColumnList x ds y → (z : NewTable) (r : Stmt) → ((cs : List ColumnDef) (d : ColumnDef) → cs ++ d ∷ [] ≡ ds → parse (s.Flat (p.Create (cp.Column (columns z cs) d))) y ≡ Ok r) → parse (s.Flat (p.Create (cp.ColumnStart (columns z [])))) x ≡ Ok r
+unfolding step place_step create_step drop_step insert_step update_step delete_step select_step
 complete_columns (S.first_column p) z r h = complete_column p (columns z []) r (h [] _ refl)
-complete_columns (S.next_column {cs = cs} k k') z r h = complete_columns k z r (λ ds d is. go _ _ _ _ r (ap (λ v. flat (p.ColumnStart (columns z v))) is) (complete_column k' (columns z cs) r (h cs _ refl)))
+complete_columns (S.next_column {cs = cs} k k') z r h = complete_columns k z r (λ ds d is. go _ _ _ _ r (ap (λ v. flat (p.Create (cp.ColumnStart (columns z v)))) is) (complete_column k' (columns z cs) r (h cs _ refl)))
 
-complete_table : {y z : Tokens} {ds : List ColumnDef} → S.ColumnList y ds (t.Close ∷ z) → S.Semis z → (b : Bool) (n : Text) → parse (s.Flat (p.CreateNamed b n)) (t.Open ∷ y) ≡ Ok (stmt.Create b n ds)
-unfolding step place_step
+complete_table : {y z : Tokens} {ds : List ColumnDef} → S.ColumnList y ds (t.Close ∷ z) → S.Semis z → (b : Bool) (n : Text) → parse (s.Flat (p.Create (cp.Named b n))) (t.Open ∷ y) ≡ Ok (stmt.Create b n ds)
+unfolding step place_step create_step drop_step insert_step update_step delete_step select_step
 complete_table k w b n = go _ _ _ _ _ refl (complete_columns k (new_table b n) _ (λ cs d is. go _ _ _ _ _ (ap (λ v. flat (p.Ended (stmt.Create b n v))) is) (complete_ended w _)))
 
-create_if_as : (n : Text) (y : Tokens) (r : Stmt) → parse (s.Flat (p.CreateNamed false n)) y ≡ Ok r → parse (s.Flat (p.CreateIf n)) y ≡ Ok r
-unfolding step finish place_step place_finish
+create_if_as : (n : Text) (y : Tokens) (r : Stmt) → parse (s.Flat (p.Create (cp.Named false n))) y ≡ Ok r → parse (s.Flat (p.Create (cp.If n))) y ≡ Ok r
+unfolding step finish place_step create_step drop_step insert_step update_step delete_step select_step place_finish
 create_if_as n [] r h = absurd (never_end _ r refl h)
 create_if_as n (t.Word m w.Not ∷ us) r h = absurd (never _ _ us r refl h)
 create_if_as n (u ∷ us) r h = as_step _ _ _ us r refl h
 
-create_named : {n : Text} {u : Token} → Name n u → (y : Tokens) (r : Stmt) → parse (s.Flat (p.CreateNamed false n)) y ≡ Ok r → parse (s.Flat p.CreateTable) (u ∷ y) ≡ Ok r
-unfolding step place_step
+create_named : {n : Text} {u : Token} → Name n u → (y : Tokens) (r : Stmt) → parse (s.Flat (p.Create (cp.Named false n))) y ≡ Ok r → parse (s.Flat (p.Create cp.Table)) (u ∷ y) ≡ Ok r
+unfolding step place_step create_step drop_step insert_step update_step delete_step select_step
 create_named (bare {n = n} {v = w.If} h) y r k = go _ _ _ _ r refl (create_if_as n y r k)
-create_named (bare {n = n} h) y r k = go _ _ _ _ r (ap (λ b. on_name (cond b None (Some n)) (p.CreateNamed false)) h) k
+create_named (bare {n = n} h) y r k = go _ _ _ _ r (ap (λ b. on_name (cond b None (Some n)) (λ z. p.Create (cp.Named false z))) h) k
 create_named quoted y r k = go _ _ _ _ r refl k
 
-drop_if_as : (n : Text) (y : Tokens) (r : Stmt) → parse (s.Flat (p.Ended (stmt.Drop false n))) y ≡ Ok r → parse (s.Flat (p.DropIf n)) y ≡ Ok r
-unfolding step finish place_step place_finish
+drop_if_as : (n : Text) (y : Tokens) (r : Stmt) → parse (s.Flat (p.Ended (stmt.Drop false n))) y ≡ Ok r → parse (s.Flat (p.Drop (dp.If n))) y ≡ Ok r
+unfolding step finish place_step create_step drop_step insert_step update_step delete_step select_step place_finish
 drop_if_as n [] r h = as_end _ _ r refl h
 drop_if_as n (t.Word m w.Exists ∷ us) r h = absurd (never _ _ us r refl h)
 drop_if_as n (u ∷ us) r h = as_step _ _ _ us r refl h
 
-drop_named : {n : Text} {u : Token} → Name n u → (y : Tokens) (r : Stmt) → parse (s.Flat (p.Ended (stmt.Drop false n))) y ≡ Ok r → parse (s.Flat p.DropTable) (u ∷ y) ≡ Ok r
-unfolding step place_step
+drop_named : {n : Text} {u : Token} → Name n u → (y : Tokens) (r : Stmt) → parse (s.Flat (p.Ended (stmt.Drop false n))) y ≡ Ok r → parse (s.Flat (p.Drop dp.Table)) (u ∷ y) ≡ Ok r
+unfolding step place_step create_step drop_step insert_step update_step delete_step select_step
 drop_named (bare {n = n} {v = w.If} h) y r k = go _ _ _ _ r refl (drop_if_as n y r k)
 drop_named (bare {n = n} h) y r k = go _ _ _ _ r (ap (λ b. on_name (cond b None (Some n)) (λ n. p.Ended (stmt.Drop false n))) h) k
 drop_named quoted y r k = go _ _ _ _ r refl k
 
 -- ---- INSERT
 
-complete_names : {x y : Tokens} {ns : List Text} → S.NameList x ns y → (n : Text) (r : Stmt) → parse (s.Flat (p.Names n ns)) y ≡ Ok r → parse (s.Flat (p.NameStart n [])) x ≡ Ok r
-unfolding step place_step
-complete_names (S.first_name k) n r h = go _ _ _ _ r (on_named k (λ m. p.Names n (m ∷ []))) h
-complete_names (S.next_name {ns = ns} q k) n r h = complete_names q n r (go _ _ _ _ r refl (go _ _ _ _ r (on_named k (λ m. p.Names n (ns ++ m ∷ []))) h))
+complete_names : {x y : Tokens} {ns : List Text} → S.NameList x ns y → (n : Text) (r : Stmt) → parse (s.Flat (p.Insert (ip.Names n ns))) y ≡ Ok r → parse (s.Flat (p.Insert (ip.NameStart n []))) x ≡ Ok r
+unfolding step place_step create_step drop_step insert_step update_step delete_step select_step
+complete_names (S.first_name k) n r h = go _ _ _ _ r (on_named k (λ m. p.Insert (ip.Names n (m ∷ [])))) h
+complete_names (S.next_name {ns = ns} q k) n r h = complete_names q n r (go _ _ _ _ r refl (go _ _ _ _ r (on_named k (λ m. p.Insert (ip.Names n (ns ++ m ∷ [])))) h))
 
-table_as : (n : Text) (y : Tokens) (r : Stmt) → parse (s.Flat (p.Columns (target n None))) y ≡ Ok r → parse (s.Flat (p.Table n)) y ≡ Ok r
-unfolding step finish place_step place_finish
+table_as : (n : Text) (y : Tokens) (r : Stmt) → parse (s.Flat (p.Insert (ip.Columns (target n None)))) y ≡ Ok r → parse (s.Flat (p.Insert (ip.Table n))) y ≡ Ok r
+unfolding step finish place_step create_step drop_step insert_step update_step delete_step select_step place_finish
 table_as n [] r h = absurd (never_end _ r refl h)
 table_as n (t.Open ∷ us) r h = absurd (never _ _ us r refl h)
 table_as n (u ∷ us) r h = as_step _ _ _ us r refl h
 
-complete_target : {x y : Tokens} {ns : Option (List Text)} → S.ColumnNames x ns y → (n : Text) (r : Stmt) → parse (s.Flat (p.Columns (target n ns))) y ≡ Ok r → parse (s.Flat (p.Table n)) x ≡ Ok r
-unfolding step place_step
+complete_target : {x y : Tokens} {ns : Option (List Text)} → S.ColumnNames x ns y → (n : Text) (r : Stmt) → parse (s.Flat (p.Insert (ip.Columns (target n ns)))) y ≡ Ok r → parse (s.Flat (p.Insert (ip.Table n))) x ≡ Ok r
+unfolding step place_step create_step drop_step insert_step update_step delete_step select_step
 complete_target S.no_names n r h = table_as n _ r h
 complete_target (S.these_names k) n r h = go _ _ _ _ r refl (complete_names k n r (go _ _ _ _ r refl h))
 
 -- `)` behind a row
-row_closed : (i : Target) (rs : List (List Expr)) (ys xs : List Expr) (a : Expr) (toks : Tokens) (r : Stmt) → ys ++ a ∷ [] ≡ xs → parse (s.Flat (p.Rows i (rs ++ xs ∷ []))) toks ≡ Ok r → Then 0 (f.Clause (c.Row i rs ys) ∷ []) a (t.Close ∷ toks) r
+row_closed : (i : Target) (rs : List (List Expr)) (ys xs : List Expr) (a : Expr) (toks : Tokens) (r : Stmt) → ys ++ a ∷ [] ≡ xs → parse (s.Flat (p.Insert (ip.Rows i (rs ++ xs ∷ [])))) toks ≡ Ok r → Then 0 (f.Clause (c.Row i rs ys) ∷ []) a (t.Close ∷ toks) r
 unfolding done clause_on
-row_closed i rs ys xs a toks r is h = clause_step (c.Row i rs ys) a t.Close toks _ r (ap (λ v. flat (p.Rows i (rs ++ v ∷ []))) is) (λ m st b. refl) h
+row_closed i rs ys xs a toks r is h = clause_step (c.Row i rs ys) a t.Close toks _ r (ap (λ v. flat (p.Insert (ip.Rows i (rs ++ v ∷ [])))) is) (λ m st b. refl) h
 
-complete_rows : {x y : Tokens} {rs : List (List Expr)} → S.Rows x rs y → (i : Target) (r : Stmt) → parse (s.Flat (p.Rows i rs)) y ≡ Ok r → parse (s.Flat (p.Values i [])) x ≡ Ok r
-unfolding step place_step
+complete_rows : {x y : Tokens} {rs : List (List Expr)} → S.Rows x rs y → (i : Target) (r : Stmt) → parse (s.Flat (p.Insert (ip.Rows i rs))) y ≡ Ok r → parse (s.Flat (p.Insert (ip.Values i []))) x ≡ Ok r
+unfolding step place_step create_step drop_step insert_step update_step delete_step select_step
 complete_rows (S.first_row p) i r h = go _ _ _ _ r refl (complete_some p (λ xs. f.Clause (c.Row i [] xs)) [] (row_list i []) r (λ ys a is. row_closed i [] ys _ a _ r is h))
 complete_rows (S.next_row {rs = rs} p q) i r h = complete_rows p i r (go _ _ _ _ r refl (go _ _ _ _ r refl (complete_some q (λ xs. f.Clause (c.Row i rs xs)) [] (row_list i rs) r (λ ys a is. row_closed i rs ys _ a _ r is h))))
 
-complete_inserted : {y : Tokens} → S.Semis y → (i : Target) (rs : List (List Expr)) → parse (s.Flat (p.Rows i rs)) y ≡ Ok (insert i rs)
-unfolding step finish place_step place_finish
+complete_inserted : {y : Tokens} → S.Semis y → (i : Target) (rs : List (List Expr)) → parse (s.Flat (p.Insert (ip.Rows i rs))) y ≡ Ok (insert i rs)
+unfolding step finish place_step create_step drop_step insert_step update_step delete_step select_step place_finish
 complete_inserted S.end i rs = stop _ _ refl
 complete_inserted (S.semi k) i rs = go _ _ _ _ _ refl (complete_ended k _)
 
 -- ---- UPDATE, DELETE
 
-complete_set : {x y : Tokens} {i : Text × Expr} → S.Set x i y → (n : Text) (is : List (Text × Expr)) (r : Stmt) → parse (s.Flat (p.Sets n (is ++ i ∷ []))) y ≡ Ok r → parse (s.Flat (p.SetStart n is)) x ≡ Ok r
-unfolding step place_step
-complete_set (S.set {n = m} {a = a} k q) n is r h = go _ _ _ _ r (on_named k (p.SetName n is)) (go _ _ _ _ r refl (complete q (f.Clause (c.Set n is m) ∷ []) (omega arith) (omega arith) r (clause_as (c.Set n is m) a _ refl _ r h)))
+complete_set : {x y : Tokens} {i : Text × Expr} → S.Set x i y → (n : Text) (is : List (Text × Expr)) (r : Stmt) → parse (s.Flat (p.Update (up.Sets n (is ++ i ∷ [])))) y ≡ Ok r → parse (s.Flat (p.Update (up.SetStart n is))) x ≡ Ok r
+unfolding step place_step create_step drop_step insert_step update_step delete_step select_step
+complete_set (S.set {n = m} {a = a} k q) n is r h = go _ _ _ _ r (on_named k (λ z. p.Update (up.SetName n is z))) (go _ _ _ _ r refl (complete q (f.Clause (c.Set n is m) ∷ []) (omega arith) (omega arith) r (clause_as (c.Set n is m) a _ refl _ r h)))
 
-complete_sets : {x y : Tokens} {is : List (Text × Expr)} → S.SetList x is y → (n : Text) (r : Stmt) → parse (s.Flat (p.Sets n is)) y ≡ Ok r → parse (s.Flat (p.SetStart n [])) x ≡ Ok r
-unfolding step place_step
+complete_sets : {x y : Tokens} {is : List (Text × Expr)} → S.SetList x is y → (n : Text) (r : Stmt) → parse (s.Flat (p.Update (up.Sets n is))) y ≡ Ok r → parse (s.Flat (p.Update (up.SetStart n []))) x ≡ Ok r
+unfolding step place_step create_step drop_step insert_step update_step delete_step select_step
 complete_sets (S.first_set k) n r h = complete_set k n [] r h
 complete_sets (S.next_set {is = is} k k') n r h = complete_sets k n r (go _ _ _ _ r refl (complete_set k' n is r h))
 
-complete_update : {x y : Tokens} {g : Option Expr} → S.Where x g y → S.Semis y → (n : Text) (is : List (Text × Expr)) → parse (s.Flat (p.Sets n is)) x ≡ Ok (stmt.Update n is g)
-unfolding step finish place_step place_finish
+complete_update : {x y : Tokens} {g : Option Expr} → S.Where x g y → S.Semis y → (n : Text) (is : List (Text × Expr)) → parse (s.Flat (p.Update (up.Sets n is))) x ≡ Ok (stmt.Update n is g)
+unfolding step finish place_step create_step drop_step insert_step update_step delete_step select_step place_finish
 complete_update S.no_where S.end n is = stop _ _ refl
 complete_update S.no_where (S.semi w) n is = go _ _ _ _ _ refl (complete_ended w _)
 complete_update (S.filter {a = a} k) w n is = go _ _ _ _ _ refl (complete k (f.Clause (c.UpdateFilter n is) ∷ []) (omega arith) (omega arith) _ (clause_as (c.UpdateFilter n is) a _ refl _ _ (complete_ended w _)))
 
-complete_delete : {x y : Tokens} {g : Option Expr} → S.Where x g y → S.Semis y → (n : Text) → parse (s.Flat (p.DeleteTable n)) x ≡ Ok (stmt.Delete n g)
-unfolding step finish place_step place_finish
+complete_delete : {x y : Tokens} {g : Option Expr} → S.Where x g y → S.Semis y → (n : Text) → parse (s.Flat (p.Delete (del.Table n))) x ≡ Ok (stmt.Delete n g)
+unfolding step finish place_step create_step drop_step insert_step update_step delete_step select_step place_finish
 complete_delete S.no_where S.end n = stop _ _ refl
 complete_delete S.no_where (S.semi w) n = go _ _ _ _ _ refl (complete_ended w _)
 complete_delete (S.filter {a = a} k) w n = go _ _ _ _ _ refl (complete k (f.Clause (c.DeleteFilter n) ∷ []) (omega arith) (omega arith) _ (clause_as (c.DeleteFilter n) a _ refl _ _ (complete_ended w _)))
@@ -375,13 +381,13 @@ complete_delete (S.filter {a = a} k) w n = go _ _ _ _ _ refl (complete k (f.Clau
 -- ---- any statement
 
 pub complete_stmt : {x : Tokens} {r : Stmt} → S.Spells x r → parse Start x ≡ Ok r
-unfolding step place_step
+unfolding step place_step create_step drop_step insert_step update_step delete_step select_step
 complete_stmt (S.create {b = b} {n = n} S.always k l w) = go _ _ _ _ _ refl (go _ _ _ _ _ refl (create_named k _ _ (complete_table l w false n)))
-complete_stmt (S.create {b = b} {n = n} S.if_not_exists k l w) = go _ _ _ _ _ refl (go _ _ _ _ _ refl (go _ _ _ _ _ refl (go _ _ _ _ _ refl (go _ _ _ _ _ refl (go _ _ _ _ _ (on_named k (p.CreateNamed true)) (complete_table l w true n))))))
+complete_stmt (S.create {b = b} {n = n} S.if_not_exists k l w) = go _ _ _ _ _ refl (go _ _ _ _ _ refl (go _ _ _ _ _ refl (go _ _ _ _ _ refl (go _ _ _ _ _ refl (go _ _ _ _ _ (on_named k (λ z. p.Create (cp.Named true z))) (complete_table l w true n))))))
 complete_stmt (S.drop S.surely k w) = go _ _ _ _ _ refl (go _ _ _ _ _ refl (drop_named k _ _ (complete_ended w _)))
 complete_stmt (S.drop S.if_exists k w) = go _ _ _ _ _ refl (go _ _ _ _ _ refl (go _ _ _ _ _ refl (go _ _ _ _ _ refl (go _ _ _ _ _ (on_named k (λ n. p.Ended (stmt.Drop true n))) (complete_ended w _)))))
-complete_stmt (S.insert {n = n} k l q w) = go _ _ _ _ _ refl (go _ _ _ _ _ refl (go _ _ _ _ _ (on_named k p.Table) (complete_target l n _ (go _ _ _ _ _ refl (complete_rows q _ _ (complete_inserted w _ _))))))
-complete_stmt (S.insert_select {n = n} {ns = ns} k l q w) = go _ _ _ _ _ refl (go _ _ _ _ _ refl (go _ _ _ _ _ (on_named k p.Table) (complete_target l n _ (complete_select q w (p.Columns (target n ns)) (Some (target n ns)) (λ m. refl)))))
-complete_stmt (S.update {n = n} k l q w) = go _ _ _ _ _ refl (go _ _ _ _ _ (on_named k p.UpdateTable) (go _ _ _ _ _ refl (complete_sets l n _ (complete_update q w n _))))
-complete_stmt (S.delete {n = n} k q w) = go _ _ _ _ _ refl (go _ _ _ _ _ refl (go _ _ _ _ _ (on_named k p.DeleteTable) (complete_delete q w n)))
+complete_stmt (S.insert {n = n} k l q w) = go _ _ _ _ _ refl (go _ _ _ _ _ refl (go _ _ _ _ _ (on_named k (λ z. p.Insert (ip.Table z))) (complete_target l n _ (go _ _ _ _ _ refl (complete_rows q _ _ (complete_inserted w _ _))))))
+complete_stmt (S.insert_select {n = n} {ns = ns} k l q w) = go _ _ _ _ _ refl (go _ _ _ _ _ refl (go _ _ _ _ _ (on_named k (λ z. p.Insert (ip.Table z))) (complete_target l n _ (complete_select q w (p.Insert (ip.Columns (target n ns))) (Some (target n ns)) (λ m. refl)))))
+complete_stmt (S.update {n = n} k l q w) = go _ _ _ _ _ refl (go _ _ _ _ _ (on_named k (λ z. p.Update (up.Table z))) (go _ _ _ _ _ refl (complete_sets l n _ (complete_update q w n _))))
+complete_stmt (S.delete {n = n} k q w) = go _ _ _ _ _ refl (go _ _ _ _ _ refl (go _ _ _ _ _ (on_named k (λ z. p.Delete (del.Table z))) (complete_delete q w n)))
 complete_stmt (S.select_stmt q w) = complete_select q w p.Start None (λ m. refl)

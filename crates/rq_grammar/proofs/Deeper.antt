@@ -20,6 +20,11 @@ use Rattle.rq_grammar.specs.declared.place.Stage.{Stage}
 use Rattle.rq_grammar.specs.declared.place.Stage.TheVariants as stage
 use Rattle.rq_grammar.specs.declared.place.Place.{Place}
 use Rattle.rq_grammar.specs.declared.place.Place.TheVariants as p
+use Rattle.rq_grammar.specs.declared.place.DropPlace.TheVariants as dp
+use Rattle.rq_grammar.specs.declared.place.InsertPlace.TheVariants as ip
+use Rattle.rq_grammar.specs.declared.place.UpdatePlace.TheVariants as up
+use Rattle.rq_grammar.specs.declared.place.DeletePlace.TheVariants as del
+use Rattle.rq_grammar.specs.declared.place.SelectPlace.TheVariants as sp
 use Rattle.rq_grammar.specs.declared.frame.Clause.{Clause}
 use Rattle.rq_grammar.specs.declared.frame.Clause.TheVariants as c
 use Rattle.rq_grammar.specs.declared.frame.Frame.{Frame}
@@ -33,7 +38,7 @@ use Rattle.rq_grammar.specs.Stack as K
 use Rattle.rq_grammar.specs.Stack.{Stack, room, closes, build, reduce, tied, grouped, with_plus, split, and_at, operand, operand_word}
 use Rattle.rq_grammar.specs.Stack.{binary as binary_at}
 use Rattle.rq_grammar.specs.Places as L
-use Rattle.rq_grammar.specs.Places.{flat, name_of, on_name, selected, place_step, place_finish, behind_ended}
+use Rattle.rq_grammar.specs.Places.{flat, name_of, on_name, selected, place_step, create_step, drop_step, insert_step, update_step, delete_step, select_step, place_finish, behind_ended}
 use Rattle.rq_grammar.specs.Machine as M
 use Rattle.rq_grammar.specs.Machine.{step, finish, done, ended_at, ended_on, end_at, end_on, clause_on, land, landed, landed_end}
 use Rattle.rq_grammar.specs.Depth.{depth, rows_depth, sets_depth, select_depth, deepest}
@@ -192,19 +197,19 @@ sets_deeper n is (t.Word m w.Where) h = moved h (omega arith)
 sets_deeper n is u h = omega (arith, ended_deeper (stmt.Update n is None) u h)
 
 pub place_deeper : {q : State} (z : Place) (u : Token) → place_step z u ≡ Some q → place_weight z ≤ weight q
-unfolding place_step
-place_deeper (p.Values i rs) u h = values_deeper i rs u h
-place_deeper (p.Rows i rs) u h = rows_deeper i rs u h
-place_deeper p.Update u h = named_deeper u p.UpdateTable h (λ n. omega arith)
-place_deeper (p.UpdateTable n) u h = update_deeper n u h
-place_deeper (p.SetStart n is) u h = named_deeper u (p.SetName n is) h (λ m. omega arith)
-place_deeper (p.SetName n is m) u h = set_name_deeper n is m u h
-place_deeper (p.Sets n is) u h = sets_deeper n is u h
-place_deeper (p.Result d) u h = result_deeper d u h
-place_deeper (p.Alias d a) u h = named_deeper u (λ n. p.Tail stage.Results (L.add_result d (item.Value a (Some n)))) h (λ n. omega (arith, results_more d.select.results (item.Value a (Some n))))
-place_deeper (p.Tail g d) u h = tail_deeper g d u h
-place_deeper (p.From d) u h = named_deeper u (λ n. p.Tail stage.Source (L.with_table d n)) h (λ n. omega arith)
-place_deeper (p.Order d) u h = order_place_deeper d u h
+unfolding place_step create_step drop_step insert_step update_step delete_step select_step
+place_deeper (p.Insert (ip.Values i rs)) u h = values_deeper i rs u h
+place_deeper (p.Insert (ip.Rows i rs)) u h = rows_deeper i rs u h
+place_deeper (p.Update up.Begun) u h = named_deeper u (λ z. p.Update (up.Table z)) h (λ n. omega arith)
+place_deeper (p.Update (up.Table n)) u h = update_deeper n u h
+place_deeper (p.Update (up.SetStart n is)) u h = named_deeper u (λ z. p.Update (up.SetName n is z)) h (λ m. omega arith)
+place_deeper (p.Update (up.SetName n is m)) u h = set_name_deeper n is m u h
+place_deeper (p.Update (up.Sets n is)) u h = sets_deeper n is u h
+place_deeper (p.Select (sp.Result d)) u h = result_deeper d u h
+place_deeper (p.Select (sp.Alias d a)) u h = named_deeper u (λ n. p.Select (sp.Tail stage.Results (L.add_result d (item.Value a (Some n))))) h (λ n. omega (arith, results_more d.select.results (item.Value a (Some n))))
+place_deeper (p.Select (sp.Tail g d)) u h = tail_deeper g d u h
+place_deeper (p.Select (sp.From d)) u h = named_deeper u (λ n. p.Select (sp.Tail stage.Source (L.with_table d n))) h (λ n. omega arith)
+place_deeper (p.Select (sp.Order d)) u h = order_place_deeper d u h
 place_deeper (p.Ended r) u h = ended_deeper r u h
 place_deeper _ u h = omega arith
 
@@ -431,12 +436,12 @@ tail_ends stage.Limited d = omega (arith, selected_depth d)
 
 place_finish_deeper : {r : Stmt} (z : Place) → place_finish z ≡ Some r → place_weight z ≤ deepest r
 unfolding place_finish
-place_finish_deeper (p.Rows i rs) h = ends_at h (omega arith)
-place_finish_deeper (p.Sets n is) h = ends_at h (omega arith)
-place_finish_deeper (p.Tail g d) h = ends_at h (tail_ends g d)
+place_finish_deeper (p.Insert (ip.Rows i rs)) h = ends_at h (omega arith)
+place_finish_deeper (p.Update (up.Sets n is)) h = ends_at h (omega arith)
+place_finish_deeper (p.Select (sp.Tail g d)) h = ends_at h (tail_ends g d)
 place_finish_deeper (p.Ended r) h = ends_at h (omega arith)
-place_finish_deeper (p.DropIf n) h = omega arith
-place_finish_deeper (p.DeleteTable n) h = omega arith
+place_finish_deeper (p.Drop (dp.If n)) h = omega arith
+place_finish_deeper (p.Delete (del.Table n)) h = omega arith
 place_finish_deeper _ h = absurd (cc)
 
 landed_end_deeper : {r : Stmt} {n : ℕ} (o : Option Place) → ((z : Place) → o ≡ Some z → n ≤ place_weight z) → landed_end o ≡ Some r → n ≤ deepest r

@@ -8,11 +8,13 @@ use Rattle.rq_grammar.specs.declared.stmt.Stmt.{Stmt}
 use Rattle.rq_grammar.specs.declared.place.Target.{Target}
 use Rattle.rq_grammar.specs.declared.place.Place.{Place}
 use Rattle.rq_grammar.specs.declared.place.Place.TheVariants as p
+use Rattle.rq_grammar.specs.declared.place.CreatePlace.TheVariants as cp
+use Rattle.rq_grammar.specs.declared.place.InsertPlace.TheVariants as ip
 use Rattle.rq_grammar.specs.declared.frame.State.{State}
 use Rattle.rq_grammar.specs.declared.frame.State.TheVariants as s
 use Rattle.rq_grammar.specs.Words.{Text, Tokens, is_reserved}
 use Rattle.rq_grammar.specs.Places as L
-use Rattle.rq_grammar.specs.Places.{name_of, on_name, place_step, place_finish}
+use Rattle.rq_grammar.specs.Places.{name_of, on_name, place_step, create_step, drop_step, insert_step, update_step, delete_step, select_step, place_finish}
 use Rattle.rq_grammar.specs.Stack as K
 use Rattle.rq_grammar.specs.Machine.{step, finish, parse}
 use Rattle.rq_grammar.specs.Depth.{open_behind, most_open}
@@ -27,8 +29,8 @@ create_due : {q : State} (u : Token) → L.behind_create u ≡ Some q → (n : �
 create_due (t.Word m w.Table) h n = owed n h (omega arith)
 create_due _ h n = absurd (cc)
 
-named_due : {q : State} (b : Bool) (u : Token) → on_name (name_of u) (p.CreateNamed b) ≡ Some q → (n : ℕ) → n + 1 ≤ open_behind n u + due q
-named_due b (t.Word m k) h n = owed n (on_some (is_reserved k) m (p.CreateNamed b) h).1 (omega arith)
+named_due : {q : State} (b : Bool) (u : Token) → on_name (name_of u) (λ z. p.Create (cp.Named b z)) ≡ Some q → (n : ℕ) → n + 1 ≤ open_behind n u + due q
+named_due b (t.Word m k) h n = owed n (on_some (is_reserved k) m (λ z. p.Create (cp.Named b z)) h).1 (omega arith)
 named_due b (t.Quoted m) h n = owed n h (omega arith)
 named_due b _ h n = absurd (cc)
 
@@ -57,14 +59,14 @@ in_due st d a t.Open h n = owed (suc n) h (omega arith)
 in_due st d a _ h n = absurd (cc)
 
 place_step_due : {q : State} (z : Place) (u : Token) → place_step z u ≡ Some q → (n : ℕ) → n + place_due z ≤ max n (open_behind n u + due q)
-unfolding place_step
-place_step_due p.Create u h n = omega (arith, create_due u h n)
-place_step_due p.CreateTable u h n = omega (arith, table_due u h n)
-place_step_due (p.CreateIf m) u h n = omega (arith, if_due m u h n)
-place_step_due p.CreateIfNot u h n = omega (arith, if_not_due u h n)
-place_step_due p.CreateIfNotExists u h n = omega (arith, named_due true u h n)
-place_step_due (p.CreateNamed b m) u h n = omega (arith, opened_due b m u h n)
-place_step_due (p.Values i rs) u h n = omega (arith, values_due i rs u h n)
+unfolding place_step create_step drop_step insert_step update_step delete_step select_step
+place_step_due (p.Create cp.Begun) u h n = omega (arith, create_due u h n)
+place_step_due (p.Create cp.Table) u h n = omega (arith, table_due u h n)
+place_step_due (p.Create (cp.If m)) u h n = omega (arith, if_due m u h n)
+place_step_due (p.Create cp.IfNot) u h n = omega (arith, if_not_due u h n)
+place_step_due (p.Create cp.IfNotExists) u h n = omega (arith, named_due true u h n)
+place_step_due (p.Create (cp.Named b m)) u h n = omega (arith, opened_due b m u h n)
+place_step_due (p.Insert (ip.Values i rs)) u h n = omega (arith, values_due i rs u h n)
 place_step_due _ u h n = omega arith
 
 pub step_due : {q : State} (z : State) (u : Token) → step z u ≡ Some q → (n : ℕ) → n + due z ≤ max n (open_behind n u + due q)
@@ -75,13 +77,13 @@ step_due _ u h n = omega arith
 
 place_finish_due : {r : Stmt} (z : Place) → place_finish z ≡ Some r → place_due z ≡ 0
 unfolding place_finish
-place_finish_due p.Create h = absurd (cc)
-place_finish_due p.CreateTable h = absurd (cc)
-place_finish_due (p.CreateIf m) h = absurd (cc)
-place_finish_due p.CreateIfNot h = absurd (cc)
-place_finish_due p.CreateIfNotExists h = absurd (cc)
-place_finish_due (p.CreateNamed b m) h = absurd (cc)
-place_finish_due (p.Values i rs) h = absurd (cc)
+place_finish_due (p.Create cp.Begun) h = absurd (cc)
+place_finish_due (p.Create cp.Table) h = absurd (cc)
+place_finish_due (p.Create (cp.If m)) h = absurd (cc)
+place_finish_due (p.Create cp.IfNot) h = absurd (cc)
+place_finish_due (p.Create cp.IfNotExists) h = absurd (cc)
+place_finish_due (p.Create (cp.Named b m)) h = absurd (cc)
+place_finish_due (p.Insert (ip.Values i rs)) h = absurd (cc)
 place_finish_due _ h = refl
 
 finish_due : {r : Stmt} (z : State) → finish z ≡ Some r → due z ≡ 0

@@ -16,6 +16,12 @@ use Rattle.rq_grammar.specs.declared.place.Query.{Query}
 use Rattle.rq_grammar.specs.declared.place.Stage.TheVariants as stage
 use Rattle.rq_grammar.specs.declared.place.Place.{Place}
 use Rattle.rq_grammar.specs.declared.place.Place.TheVariants as p
+use Rattle.rq_grammar.specs.declared.place.CreatePlace.TheVariants as cp
+use Rattle.rq_grammar.specs.declared.place.DropPlace.TheVariants as dp
+use Rattle.rq_grammar.specs.declared.place.InsertPlace.TheVariants as ip
+use Rattle.rq_grammar.specs.declared.place.UpdatePlace.TheVariants as up
+use Rattle.rq_grammar.specs.declared.place.DeletePlace.TheVariants as del
+use Rattle.rq_grammar.specs.declared.place.SelectPlace.TheVariants as sp
 use Rattle.rq_grammar.specs.declared.frame.Clause.{Clause}
 use Rattle.rq_grammar.specs.declared.frame.Clause.TheVariants as c
 use Rattle.rq_grammar.specs.declared.frame.Frame.TheVariants as f
@@ -103,46 +109,46 @@ pub data Headed : Tokens → NewTable → Tokens → Type 0 where
 -- the tokens x are read up to y, and the place is behind them
 pub data Came : Tokens → Place → Tokens → Type 0 where
   at_start : {x : Tokens} → Came x p.Start x
-  at_create : {l : Text} {y : Tokens} → Came (t.Word l w.Create ∷ y) p.Create y
-  at_create_table : {l m : Text} {y : Tokens} → Came (t.Word l w.Create ∷ t.Word m w.Table ∷ y) p.CreateTable y
-  at_create_if : {l m n : Text} {y : Tokens} → Came (t.Word l w.Create ∷ t.Word m w.Table ∷ t.Word n w.If ∷ y) (p.CreateIf n) y
-  at_create_if_not : {l m n k : Text} {y : Tokens} → Came (t.Word l w.Create ∷ t.Word m w.Table ∷ t.Word n w.If ∷ t.Word k w.Not ∷ y) p.CreateIfNot y
-  at_create_if_not_exists : {l m n k j : Text} {y : Tokens} → Came (t.Word l w.Create ∷ t.Word m w.Table ∷ t.Word n w.If ∷ t.Word k w.Not ∷ t.Word j w.Exists ∷ y) p.CreateIfNotExists y
-  at_create_named : {b : Bool} {l m n : Text} {u : Token} {x y : Tokens} → S.IfNotExists b x (u ∷ y) → Name n u → Came (t.Word l w.Create ∷ t.Word m w.Table ∷ x) (p.CreateNamed b n) y
-  at_column_start : {z : NewTable} {x y : Tokens} → Headed x z y → Came x (p.ColumnStart z) y
-  at_column_named : {z : NewTable} {n : Text} {u : Token} {x y : Tokens} → Headed x z (u ∷ y) → Name n u → Came x (p.ColumnNamed z n) y
-  at_column : {z : NewTable} {d : ColumnDef} {x y y' : Tokens} → Headed x z y → S.Column y d y' → Came x (p.Column z d) y'
-  at_primary : {z : NewTable} {d : ColumnDef} {n : Text} {x y y' : Tokens} → Headed x z y → S.Column y d (t.Word n w.Primary ∷ y') → d.primary ≡ false → Came x (p.ColumnPrimary z d) y'
-  at_not : {z : NewTable} {d : ColumnDef} {n : Text} {x y y' : Tokens} → Headed x z y → S.Column y d (t.Word n w.Not ∷ y') → d.not_null ≡ false → Came x (p.ColumnNot z d) y'
-  at_drop : {l : Text} {y : Tokens} → Came (t.Word l w.Drop ∷ y) p.Drop y
-  at_drop_table : {l m : Text} {y : Tokens} → Came (t.Word l w.Drop ∷ t.Word m w.Table ∷ y) p.DropTable y
-  at_drop_if : {l m n : Text} {y : Tokens} → Came (t.Word l w.Drop ∷ t.Word m w.Table ∷ t.Word n w.If ∷ y) (p.DropIf n) y
-  at_drop_if_exists : {l m n k : Text} {y : Tokens} → Came (t.Word l w.Drop ∷ t.Word m w.Table ∷ t.Word n w.If ∷ t.Word k w.Exists ∷ y) p.DropIfExists y
-  at_insert : {l : Text} {y : Tokens} → Came (t.Word l w.Insert ∷ y) p.Insert y
-  at_into : {l m : Text} {y : Tokens} → Came (t.Word l w.Insert ∷ t.Word m w.Into ∷ y) p.Into y
-  at_table : {l m n : Text} {u : Token} {y : Tokens} → Name n u → Came (t.Word l w.Insert ∷ t.Word m w.Into ∷ u ∷ y) (p.Table n) y
-  at_name_start : {l m n : Text} {u : Token} {ns : List Text} {y z : Tokens} → Name n u → Before S.NameList z ns y → Came (t.Word l w.Insert ∷ t.Word m w.Into ∷ u ∷ t.Open ∷ z) (p.NameStart n ns) y
-  at_names : {l m n : Text} {u : Token} {ns : List Text} {y z : Tokens} → Name n u → S.NameList z ns y → Came (t.Word l w.Insert ∷ t.Word m w.Into ∷ u ∷ t.Open ∷ z) (p.Names n ns) y
-  at_columns : {l m n : Text} {u : Token} {ns : Option (List Text)} {y z : Tokens} → Name n u → S.ColumnNames z ns y → Came (t.Word l w.Insert ∷ t.Word m w.Into ∷ u ∷ z) (p.Columns (target n ns)) y
-  at_values : {l m n k : Text} {u : Token} {ns : Option (List Text)} {rs : List (List Expr)} {y z z1 : Tokens} → Name n u → S.ColumnNames z ns (t.Word k w.Values ∷ z1) → Before S.Rows z1 rs y → Came (t.Word l w.Insert ∷ t.Word m w.Into ∷ u ∷ z) (p.Values (target n ns) rs) y
-  at_rows : {l m n k : Text} {u : Token} {ns : Option (List Text)} {rs : List (List Expr)} {y z z1 : Tokens} → Name n u → S.ColumnNames z ns (t.Word k w.Values ∷ z1) → S.Rows z1 rs y → Came (t.Word l w.Insert ∷ t.Word m w.Into ∷ u ∷ z) (p.Rows (target n ns) rs) y
-  at_update : {l : Text} {y : Tokens} → Came (t.Word l w.Update ∷ y) p.Update y
-  at_update_table : {l n : Text} {u : Token} {y : Tokens} → Name n u → Came (t.Word l w.Update ∷ u ∷ y) (p.UpdateTable n) y
-  at_set_start : {l m n : Text} {u : Token} {is : List (Text × Expr)} {y z : Tokens} → Name n u → Before S.SetList z is y → Came (t.Word l w.Update ∷ u ∷ t.Word m w.Set ∷ z) (p.SetStart n is) y
-  at_set_name : {l m n k : Text} {u u' : Token} {is : List (Text × Expr)} {y z : Tokens} → Name n u → Before S.SetList z is (u' ∷ y) → Name k u' → Came (t.Word l w.Update ∷ u ∷ t.Word m w.Set ∷ z) (p.SetName n is k) y
-  at_sets : {l m n : Text} {u : Token} {is : List (Text × Expr)} {y z : Tokens} → Name n u → S.SetList z is y → Came (t.Word l w.Update ∷ u ∷ t.Word m w.Set ∷ z) (p.Sets n is) y
-  at_delete : {l : Text} {y : Tokens} → Came (t.Word l w.Delete ∷ y) p.Delete y
-  at_delete_from : {l m : Text} {y : Tokens} → Came (t.Word l w.Delete ∷ t.Word m w.From ∷ y) p.DeleteFrom y
-  at_delete_table : {l m n : Text} {u : Token} {y : Tokens} → Name n u → Came (t.Word l w.Delete ∷ t.Word m w.From ∷ u ∷ y) (p.DeleteTable n) y
-  at_result : {i : Option Target} {is : List ResultItem} {m : Text} {x y z : Tokens} → Opening x i (t.Word m w.Select ∷ y) → Before S.ResultList y is z → Came x (p.Result (results (query i) is)) z
-  at_alias : {i : Option Target} {is : List ResultItem} {a : Expr} {m n : Text} {x y y' z : Tokens} → Opening x i (t.Word m w.Select ∷ y) → Before S.ResultList y is y' → At 0 y' a (t.Word n w.As ∷ z) → Came x (p.Alias (results (query i) is) a) z
-  tail_results : {q : Query} {x y : Tokens} → WithResults x q y → Came x (p.Tail stage.Results q) y
-  tail_source : {q : Query} {x y : Tokens} → WithSource x q y → Came x (p.Tail stage.Source q) y
-  tail_filtered : {q : Query} {x y : Tokens} → WithFilter x q y → Came x (p.Tail stage.Filtered q) y
-  tail_ordered : {q : Query} {is : List OrderTerm} {n m : Text} {x y z : Tokens} → WithFilter x q (t.Word n w.Order ∷ t.Word m w.By ∷ y) → S.TermList y is z → Came x (p.Tail stage.Ordered (terms q is)) z
-  tail_limited : {q : Query} {x y : Tokens} → WithLimits x q y → Came x (p.Tail stage.Limited q) y
-  at_from : {q : Query} {n : Text} {x y : Tokens} → WithResults x q (t.Word n w.From ∷ y) → Came x (p.From q) y
-  at_order : {q : Query} {n : Text} {x y : Tokens} → WithFilter x q (t.Word n w.Order ∷ y) → Came x (p.Order q) y
+  at_create : {l : Text} {y : Tokens} → Came (t.Word l w.Create ∷ y) (p.Create cp.Begun) y
+  at_create_table : {l m : Text} {y : Tokens} → Came (t.Word l w.Create ∷ t.Word m w.Table ∷ y) (p.Create cp.Table) y
+  at_create_if : {l m n : Text} {y : Tokens} → Came (t.Word l w.Create ∷ t.Word m w.Table ∷ t.Word n w.If ∷ y) (p.Create (cp.If n)) y
+  at_create_if_not : {l m n k : Text} {y : Tokens} → Came (t.Word l w.Create ∷ t.Word m w.Table ∷ t.Word n w.If ∷ t.Word k w.Not ∷ y) (p.Create cp.IfNot) y
+  at_create_if_not_exists : {l m n k j : Text} {y : Tokens} → Came (t.Word l w.Create ∷ t.Word m w.Table ∷ t.Word n w.If ∷ t.Word k w.Not ∷ t.Word j w.Exists ∷ y) (p.Create cp.IfNotExists) y
+  at_create_named : {b : Bool} {l m n : Text} {u : Token} {x y : Tokens} → S.IfNotExists b x (u ∷ y) → Name n u → Came (t.Word l w.Create ∷ t.Word m w.Table ∷ x) (p.Create (cp.Named b n)) y
+  at_column_start : {z : NewTable} {x y : Tokens} → Headed x z y → Came x (p.Create (cp.ColumnStart z)) y
+  at_column_named : {z : NewTable} {n : Text} {u : Token} {x y : Tokens} → Headed x z (u ∷ y) → Name n u → Came x (p.Create (cp.ColumnNamed z n)) y
+  at_column : {z : NewTable} {d : ColumnDef} {x y y' : Tokens} → Headed x z y → S.Column y d y' → Came x (p.Create (cp.Column z d)) y'
+  at_primary : {z : NewTable} {d : ColumnDef} {n : Text} {x y y' : Tokens} → Headed x z y → S.Column y d (t.Word n w.Primary ∷ y') → d.primary ≡ false → Came x (p.Create (cp.ColumnPrimary z d)) y'
+  at_not : {z : NewTable} {d : ColumnDef} {n : Text} {x y y' : Tokens} → Headed x z y → S.Column y d (t.Word n w.Not ∷ y') → d.not_null ≡ false → Came x (p.Create (cp.ColumnNot z d)) y'
+  at_drop : {l : Text} {y : Tokens} → Came (t.Word l w.Drop ∷ y) (p.Drop dp.Begun) y
+  at_drop_table : {l m : Text} {y : Tokens} → Came (t.Word l w.Drop ∷ t.Word m w.Table ∷ y) (p.Drop dp.Table) y
+  at_drop_if : {l m n : Text} {y : Tokens} → Came (t.Word l w.Drop ∷ t.Word m w.Table ∷ t.Word n w.If ∷ y) (p.Drop (dp.If n)) y
+  at_drop_if_exists : {l m n k : Text} {y : Tokens} → Came (t.Word l w.Drop ∷ t.Word m w.Table ∷ t.Word n w.If ∷ t.Word k w.Exists ∷ y) (p.Drop dp.IfExists) y
+  at_insert : {l : Text} {y : Tokens} → Came (t.Word l w.Insert ∷ y) (p.Insert ip.Begun) y
+  at_into : {l m : Text} {y : Tokens} → Came (t.Word l w.Insert ∷ t.Word m w.Into ∷ y) (p.Insert ip.Into) y
+  at_table : {l m n : Text} {u : Token} {y : Tokens} → Name n u → Came (t.Word l w.Insert ∷ t.Word m w.Into ∷ u ∷ y) (p.Insert (ip.Table n)) y
+  at_name_start : {l m n : Text} {u : Token} {ns : List Text} {y z : Tokens} → Name n u → Before S.NameList z ns y → Came (t.Word l w.Insert ∷ t.Word m w.Into ∷ u ∷ t.Open ∷ z) (p.Insert (ip.NameStart n ns)) y
+  at_names : {l m n : Text} {u : Token} {ns : List Text} {y z : Tokens} → Name n u → S.NameList z ns y → Came (t.Word l w.Insert ∷ t.Word m w.Into ∷ u ∷ t.Open ∷ z) (p.Insert (ip.Names n ns)) y
+  at_columns : {l m n : Text} {u : Token} {ns : Option (List Text)} {y z : Tokens} → Name n u → S.ColumnNames z ns y → Came (t.Word l w.Insert ∷ t.Word m w.Into ∷ u ∷ z) (p.Insert (ip.Columns (target n ns))) y
+  at_values : {l m n k : Text} {u : Token} {ns : Option (List Text)} {rs : List (List Expr)} {y z z1 : Tokens} → Name n u → S.ColumnNames z ns (t.Word k w.Values ∷ z1) → Before S.Rows z1 rs y → Came (t.Word l w.Insert ∷ t.Word m w.Into ∷ u ∷ z) (p.Insert (ip.Values (target n ns) rs)) y
+  at_rows : {l m n k : Text} {u : Token} {ns : Option (List Text)} {rs : List (List Expr)} {y z z1 : Tokens} → Name n u → S.ColumnNames z ns (t.Word k w.Values ∷ z1) → S.Rows z1 rs y → Came (t.Word l w.Insert ∷ t.Word m w.Into ∷ u ∷ z) (p.Insert (ip.Rows (target n ns) rs)) y
+  at_update : {l : Text} {y : Tokens} → Came (t.Word l w.Update ∷ y) (p.Update up.Begun) y
+  at_update_table : {l n : Text} {u : Token} {y : Tokens} → Name n u → Came (t.Word l w.Update ∷ u ∷ y) (p.Update (up.Table n)) y
+  at_set_start : {l m n : Text} {u : Token} {is : List (Text × Expr)} {y z : Tokens} → Name n u → Before S.SetList z is y → Came (t.Word l w.Update ∷ u ∷ t.Word m w.Set ∷ z) (p.Update (up.SetStart n is)) y
+  at_set_name : {l m n k : Text} {u u' : Token} {is : List (Text × Expr)} {y z : Tokens} → Name n u → Before S.SetList z is (u' ∷ y) → Name k u' → Came (t.Word l w.Update ∷ u ∷ t.Word m w.Set ∷ z) (p.Update (up.SetName n is k)) y
+  at_sets : {l m n : Text} {u : Token} {is : List (Text × Expr)} {y z : Tokens} → Name n u → S.SetList z is y → Came (t.Word l w.Update ∷ u ∷ t.Word m w.Set ∷ z) (p.Update (up.Sets n is)) y
+  at_delete : {l : Text} {y : Tokens} → Came (t.Word l w.Delete ∷ y) (p.Delete del.Begun) y
+  at_delete_from : {l m : Text} {y : Tokens} → Came (t.Word l w.Delete ∷ t.Word m w.From ∷ y) (p.Delete del.From) y
+  at_delete_table : {l m n : Text} {u : Token} {y : Tokens} → Name n u → Came (t.Word l w.Delete ∷ t.Word m w.From ∷ u ∷ y) (p.Delete (del.Table n)) y
+  at_result : {i : Option Target} {is : List ResultItem} {m : Text} {x y z : Tokens} → Opening x i (t.Word m w.Select ∷ y) → Before S.ResultList y is z → Came x (p.Select (sp.Result (results (query i) is))) z
+  at_alias : {i : Option Target} {is : List ResultItem} {a : Expr} {m n : Text} {x y y' z : Tokens} → Opening x i (t.Word m w.Select ∷ y) → Before S.ResultList y is y' → At 0 y' a (t.Word n w.As ∷ z) → Came x (p.Select (sp.Alias (results (query i) is) a)) z
+  tail_results : {q : Query} {x y : Tokens} → WithResults x q y → Came x (p.Select (sp.Tail stage.Results q)) y
+  tail_source : {q : Query} {x y : Tokens} → WithSource x q y → Came x (p.Select (sp.Tail stage.Source q)) y
+  tail_filtered : {q : Query} {x y : Tokens} → WithFilter x q y → Came x (p.Select (sp.Tail stage.Filtered q)) y
+  tail_ordered : {q : Query} {is : List OrderTerm} {n m : Text} {x y z : Tokens} → WithFilter x q (t.Word n w.Order ∷ t.Word m w.By ∷ y) → S.TermList y is z → Came x (p.Select (sp.Tail stage.Ordered (terms q is))) z
+  tail_limited : {q : Query} {x y : Tokens} → WithLimits x q y → Came x (p.Select (sp.Tail stage.Limited q)) y
+  at_from : {q : Query} {n : Text} {x y : Tokens} → WithResults x q (t.Word n w.From ∷ y) → Came x (p.Select (sp.From q)) y
+  at_order : {q : Query} {n : Text} {x y : Tokens} → WithFilter x q (t.Word n w.Order ∷ y) → Came x (p.Select (sp.Order q)) y
   at_ended : {r : Stmt} {x y : Tokens} → (S.Semis y → S.Spells x r) → Came x (p.Ended r) y
 
 -- the tokens x are read up to y

@@ -23,6 +23,12 @@ use Rattle.rq_grammar.specs.declared.place.Stage.{Stage}
 use Rattle.rq_grammar.specs.declared.place.Stage.TheVariants as stage
 use Rattle.rq_grammar.specs.declared.place.Place.{Place}
 use Rattle.rq_grammar.specs.declared.place.Place.TheVariants as p
+use Rattle.rq_grammar.specs.declared.place.CreatePlace.TheVariants as cp
+use Rattle.rq_grammar.specs.declared.place.DropPlace.TheVariants as dp
+use Rattle.rq_grammar.specs.declared.place.InsertPlace.TheVariants as ip
+use Rattle.rq_grammar.specs.declared.place.UpdatePlace.TheVariants as up
+use Rattle.rq_grammar.specs.declared.place.DeletePlace.TheVariants as del
+use Rattle.rq_grammar.specs.declared.place.SelectPlace.TheVariants as sp
 use Rattle.rq_grammar.specs.declared.frame.Clause.{Clause}
 use Rattle.rq_grammar.specs.declared.frame.Clause.TheVariants as c
 use Rattle.rq_grammar.specs.declared.frame.Frame.TheVariants as f
@@ -34,7 +40,7 @@ use Rattle.rq_grammar.specs.Grammar.{level, upper}
 use Rattle.rq_grammar.specs.Statements.{rising}
 use Rattle.rq_grammar.specs.Stack.{Stack, room, split, and_at}
 use Rattle.rq_grammar.specs.Places as L
-use Rattle.rq_grammar.specs.Places.{place_step, place_finish, selected, add_result, target, new_table}
+use Rattle.rq_grammar.specs.Places.{place_step, create_step, drop_step, insert_step, update_step, delete_step, select_step, place_finish, selected, add_result, target, new_table}
 use Rattle.rq_grammar.specs.Machine.{step, finish, parse, done, ended_at, ended_on, end_at, end_on, clause_on, land, landed_end}
 use Rattle.rq_grammar.specs.Depth.{depth, rows_depth, results_depth, sets_depth, deepest, open_behind, most_open}
 use Rattle.rq_grammar.specs.Load.{stage_depth, clause_least}
@@ -89,7 +95,7 @@ ending k a z r l h m st' a' same = ap (split end_at) (same 0 (omega arith)) ∙ 
 
 row_ends : (i : Target) (rs : List (List Expr)) (xs : List Expr) → CanEnd (c.Row i rs xs)
 unfolding step finish done ended_on clause_on place_finish
-row_ends i rs xs a m st' a' same = before {e' = 0} _ t.Close (s.Flat (p.Rows i (rs ++ (xs ++ a ∷ []) ∷ []))) (λ n. omega arith) (ap (split (ended_at t.Close)) (same 0 (omega arith))) (here _ _ refl (omega (arith, rows_more rs (xs ++ a ∷ []), depths_more xs a)))
+row_ends i rs xs a m st' a' same = before {e' = 0} _ t.Close (s.Flat (p.Insert (ip.Rows i (rs ++ (xs ++ a ∷ []) ∷ [])))) (λ n. omega arith) (ap (split (ended_at t.Close)) (same 0 (omega arith))) (here _ _ refl (omega (arith, rows_more rs (xs ++ a ∷ []), depths_more xs a)))
 
 set_ends : (n : Text) (is : List (Text × Expr)) (k : Text) → CanEnd (c.Set n is k)
 unfolding place_finish
@@ -190,7 +196,7 @@ ends_operand st q = before _ (t.Numeral 0) (s.Done st 9 zero_expr) (λ n. omega 
 the_name : Token
 the_name = t.Quoted []
 
-ends_selected : {x y : Tokens} {g : Stage} {d : Query} → Came x (p.Tail g d) y → EndsIn (stage_depth g d) 0 (s.Flat (p.Tail g d))
+ends_selected : {x y : Tokens} {g : Stage} {d : Query} → Came x (p.Select (sp.Tail g d)) y → EndsIn (stage_depth g d) 0 (s.Flat (p.Select (sp.Tail g d)))
 unfolding finish place_finish
 ends_selected (R.tail_results {q = d} (R.with_results o l)) = here _ (selected _) refl (omega (arith, selected_depth d))
 ends_selected (R.tail_source {q = d} (R.with_source (R.with_results o l) k)) = here _ (selected _) refl (omega (arith, selected_depth d))
@@ -202,103 +208,103 @@ ends_ended : (r : Stmt) → EndsIn (deepest r) 0 (s.Flat (p.Ended r))
 unfolding finish place_finish
 ends_ended r = here _ r refl (omega arith)
 
-ends_result : (i : Option Target) (is : List ResultItem) → EndsIn (results_depth is) 0 (s.Flat (p.Result (R.results (L.query i) is)))
-unfolding step finish place_step place_finish
+ends_result : (i : Option Target) (is : List ResultItem) → EndsIn (results_depth is) 0 (s.Flat (p.Select (sp.Result (R.results (L.query i) is))))
+unfolding step finish place_step create_step drop_step insert_step update_step delete_step select_step place_finish
 ends_result i is =
     let d = add_result (R.results (L.query i) is) item.All in
-    before {e' = 0} _ t.Star (s.Flat (p.Tail stage.Results d)) (λ n. omega arith) refl (here _ (selected d) refl (omega (arith, selected_depth d, results_more is item.All)))
+    before {e' = 0} _ t.Star (s.Flat (p.Select (sp.Tail stage.Results d))) (λ n. omega arith) refl (here _ (selected d) refl (omega (arith, selected_depth d, results_more is item.All)))
 
-ends_column : (z : NewTable) (d : ColumnDef) → EndsIn 0 0 (s.Flat (p.Column z d))
-unfolding step place_step
+ends_column : (z : NewTable) (d : ColumnDef) → EndsIn 0 0 (s.Flat (p.Create (cp.Column z d)))
+unfolding step place_step create_step drop_step insert_step update_step delete_step select_step
 ends_column z d = before {e' = 0} _ t.Close (s.Flat (p.Ended (L.create (L.add_column z d)))) (λ n. omega arith) refl (ends_ended _)
 
-ends_kind : (z : NewTable) (n : Text) → EndsIn 0 0 (s.Flat (p.ColumnNamed z n))
-unfolding step place_step
-ends_kind z n = before {e' = 0} _ (t.Word [] w.Text) (s.Flat (p.Column z _)) (λ n. omega arith) refl (ends_column _ _)
+ends_kind : (z : NewTable) (n : Text) → EndsIn 0 0 (s.Flat (p.Create (cp.ColumnNamed z n)))
+unfolding step place_step create_step drop_step insert_step update_step delete_step select_step
+ends_kind z n = before {e' = 0} _ (t.Word [] w.Text) (s.Flat (p.Create (cp.Column z _))) (λ n. omega arith) refl (ends_column _ _)
 
-ends_columns : (z : NewTable) → EndsIn 0 0 (s.Flat (p.ColumnStart z))
-unfolding step place_step
-ends_columns z = before {e' = 0} _ (t.Quoted []) (s.Flat (p.ColumnNamed z [])) (λ n. omega arith) refl (ends_kind z [])
+ends_columns : (z : NewTable) → EndsIn 0 0 (s.Flat (p.Create (cp.ColumnStart z)))
+unfolding step place_step create_step drop_step insert_step update_step delete_step select_step
+ends_columns z = before {e' = 0} _ (t.Quoted []) (s.Flat (p.Create (cp.ColumnNamed z []))) (λ n. omega arith) refl (ends_kind z [])
 
-ends_create_named : (b : Bool) (n : Text) → EndsIn 0 1 (s.Flat (p.CreateNamed b n))
-unfolding step place_step
-ends_create_named b n = before {e' = 0} _ t.Open (s.Flat (p.ColumnStart (new_table b n))) (λ n. omega arith) refl (ends_columns _)
+ends_create_named : (b : Bool) (n : Text) → EndsIn 0 1 (s.Flat (p.Create (cp.Named b n)))
+unfolding step place_step create_step drop_step insert_step update_step delete_step select_step
+ends_create_named b n = before {e' = 0} _ t.Open (s.Flat (p.Create (cp.ColumnStart (new_table b n)))) (λ n. omega arith) refl (ends_columns _)
 
-ends_create_table : EndsIn 0 1 (s.Flat p.CreateTable)
-unfolding step place_step
-ends_create_table = before {e' = 1} _ (t.Quoted []) (s.Flat (p.CreateNamed false [])) (λ n. omega arith) refl (ends_create_named _ _)
+ends_create_table : EndsIn 0 1 (s.Flat (p.Create cp.Table))
+unfolding step place_step create_step drop_step insert_step update_step delete_step select_step
+ends_create_table = before {e' = 1} _ (t.Quoted []) (s.Flat (p.Create (cp.Named false []))) (λ n. omega arith) refl (ends_create_named _ _)
 
-ends_create_if_not_exists : EndsIn 0 1 (s.Flat p.CreateIfNotExists)
-unfolding step place_step
-ends_create_if_not_exists = before {e' = 1} _ (t.Quoted []) (s.Flat (p.CreateNamed true [])) (λ n. omega arith) refl (ends_create_named _ _)
+ends_create_if_not_exists : EndsIn 0 1 (s.Flat (p.Create cp.IfNotExists))
+unfolding step place_step create_step drop_step insert_step update_step delete_step select_step
+ends_create_if_not_exists = before {e' = 1} _ (t.Quoted []) (s.Flat (p.Create (cp.Named true []))) (λ n. omega arith) refl (ends_create_named _ _)
 
-ends_drop_table : EndsIn 0 0 (s.Flat p.DropTable)
-unfolding step place_step
+ends_drop_table : EndsIn 0 0 (s.Flat (p.Drop dp.Table))
+unfolding step place_step create_step drop_step insert_step update_step delete_step select_step
 ends_drop_table = before {e' = 0} _ (t.Quoted []) (s.Flat (p.Ended (stmt.Drop false []))) (λ n. omega arith) refl (ends_ended _)
 
-ends_target : (i : Target) → EndsIn 0 0 (s.Flat (p.Columns i))
-unfolding step place_step
-ends_target i = before {e' = 0} _ (t.Word [] w.Select) (s.Flat (p.Result (L.query (Some i)))) (λ n. omega arith) refl (ends_result (Some i) [])
+ends_target : (i : Target) → EndsIn 0 0 (s.Flat (p.Insert (ip.Columns i)))
+unfolding step place_step create_step drop_step insert_step update_step delete_step select_step
+ends_target i = before {e' = 0} _ (t.Word [] w.Select) (s.Flat (p.Select (sp.Result (L.query (Some i))))) (λ n. omega arith) refl (ends_result (Some i) [])
 
-ends_table : (n : Text) → EndsIn 0 0 (s.Flat (p.Table n))
-unfolding step place_step
-ends_table n = before {e' = 0} _ (t.Word [] w.Select) (s.Flat (p.Result (L.query (Some (target n None))))) (λ n. omega arith) refl (ends_result (Some (target n None)) [])
+ends_table : (n : Text) → EndsIn 0 0 (s.Flat (p.Insert (ip.Table n)))
+unfolding step place_step create_step drop_step insert_step update_step delete_step select_step
+ends_table n = before {e' = 0} _ (t.Word [] w.Select) (s.Flat (p.Select (sp.Result (L.query (Some (target n None)))))) (λ n. omega arith) refl (ends_result (Some (target n None)) [])
 
-ends_into : EndsIn 0 0 (s.Flat p.Into)
-unfolding step place_step
-ends_into = before {e' = 0} _ (t.Quoted []) (s.Flat (p.Table [])) (λ n. omega arith) refl (ends_table [])
+ends_into : EndsIn 0 0 (s.Flat (p.Insert ip.Into))
+unfolding step place_step create_step drop_step insert_step update_step delete_step select_step
+ends_into = before {e' = 0} _ (t.Quoted []) (s.Flat (p.Insert (ip.Table []))) (λ n. omega arith) refl (ends_table [])
 
-ends_names : (n : Text) (ns : List Text) → EndsIn 0 0 (s.Flat (p.Names n ns))
-unfolding step place_step
-ends_names n ns = before {e' = 0} _ t.Close (s.Flat (p.Columns (target n (Some ns)))) (λ n. omega arith) refl (ends_target _)
+ends_names : (n : Text) (ns : List Text) → EndsIn 0 0 (s.Flat (p.Insert (ip.Names n ns)))
+unfolding step place_step create_step drop_step insert_step update_step delete_step select_step
+ends_names n ns = before {e' = 0} _ t.Close (s.Flat (p.Insert (ip.Columns (target n (Some ns))))) (λ n. omega arith) refl (ends_target _)
 
-ends_name_start : (n : Text) (ns : List Text) → EndsIn 0 0 (s.Flat (p.NameStart n ns))
-unfolding step place_step
-ends_name_start n ns = before {e' = 0} _ (t.Quoted []) (s.Flat (p.Names n (ns ++ [] ∷ []))) (λ n. omega arith) refl (ends_names _ _)
+ends_name_start : (n : Text) (ns : List Text) → EndsIn 0 0 (s.Flat (p.Insert (ip.NameStart n ns)))
+unfolding step place_step create_step drop_step insert_step update_step delete_step select_step
+ends_name_start n ns = before {e' = 0} _ (t.Quoted []) (s.Flat (p.Insert (ip.Names n (ns ++ [] ∷ [])))) (λ n. omega arith) refl (ends_names _ _)
 
-ends_values : (i : Target) (rs : List (List Expr)) → EndsIn (max 1 (rows_depth rs)) 1 (s.Flat (p.Values i rs))
-unfolding step place_step
+ends_values : (i : Target) (rs : List (List Expr)) → EndsIn (max 1 (rows_depth rs)) 1 (s.Flat (p.Insert (ip.Values i rs)))
+unfolding step place_step create_step drop_step insert_step update_step delete_step select_step
 ends_values i rs = before {e' = 0} _ t.Open (s.Operand (f.Clause (c.Row i rs []) ∷ [])) (λ n. omega arith) refl (wider _ (omega arith) (ends_operand _ (clause_fit (row_ends i rs []))))
 
-ends_set_name : (n : Text) (is : List (Text × Expr)) (m : Text) → EndsIn (max 1 (sets_depth is)) 0 (s.Flat (p.SetName n is m))
-unfolding step place_step
+ends_set_name : (n : Text) (is : List (Text × Expr)) (m : Text) → EndsIn (max 1 (sets_depth is)) 0 (s.Flat (p.Update (up.SetName n is m)))
+unfolding step place_step create_step drop_step insert_step update_step delete_step select_step
 ends_set_name n is m = before {e' = 0} _ t.Equal (s.Operand (f.Clause (c.Set n is m) ∷ [])) (λ n. omega arith) refl (wider _ (omega arith) (ends_operand _ (clause_fit (set_ends n is m))))
 
-ends_set_start : (n : Text) (is : List (Text × Expr)) → EndsIn (max 1 (sets_depth is)) 0 (s.Flat (p.SetStart n is))
-unfolding step place_step
-ends_set_start n is = before {e' = 0} _ (t.Quoted []) (s.Flat (p.SetName n is [])) (λ n. omega arith) refl (ends_set_name _ _ _)
+ends_set_start : (n : Text) (is : List (Text × Expr)) → EndsIn (max 1 (sets_depth is)) 0 (s.Flat (p.Update (up.SetStart n is)))
+unfolding step place_step create_step drop_step insert_step update_step delete_step select_step
+ends_set_start n is = before {e' = 0} _ (t.Quoted []) (s.Flat (p.Update (up.SetName n is []))) (λ n. omega arith) refl (ends_set_name _ _ _)
 
-ends_update_table : (n : Text) → EndsIn 1 0 (s.Flat (p.UpdateTable n))
-unfolding step place_step
-ends_update_table n = before {e' = 0} _ (t.Word [] w.Set) (s.Flat (p.SetStart n [])) (λ n. omega arith) refl (ends_set_start n [])
+ends_update_table : (n : Text) → EndsIn 1 0 (s.Flat (p.Update (up.Table n)))
+unfolding step place_step create_step drop_step insert_step update_step delete_step select_step
+ends_update_table n = before {e' = 0} _ (t.Word [] w.Set) (s.Flat (p.Update (up.SetStart n []))) (λ n. omega arith) refl (ends_set_start n [])
 
-ends_delete_table : (n : Text) → EndsIn 0 0 (s.Flat (p.DeleteTable n))
+ends_delete_table : (n : Text) → EndsIn 0 0 (s.Flat (p.Delete (del.Table n)))
 unfolding finish place_finish
 ends_delete_table n = here _ (stmt.Delete n None) refl (omega arith)
 
-ends_delete_from : EndsIn 0 0 (s.Flat p.DeleteFrom)
-unfolding step place_step
-ends_delete_from = before {e' = 0} _ (t.Quoted []) (s.Flat (p.DeleteTable [])) (λ n. omega arith) refl (ends_delete_table [])
+ends_delete_from : EndsIn 0 0 (s.Flat (p.Delete del.From))
+unfolding step place_step create_step drop_step insert_step update_step delete_step select_step
+ends_delete_from = before {e' = 0} _ (t.Quoted []) (s.Flat (p.Delete (del.Table []))) (λ n. omega arith) refl (ends_delete_table [])
 
 ends_place : {x y : Tokens} {z : Place} → Came x z y → EndsIn (place_weight z) (place_due z) (s.Flat z)
-unfolding step finish place_step place_finish
-ends_place R.at_start = before {e' = 0} _ (t.Word [] w.Select) (s.Flat (p.Result (L.query None))) (λ n. omega arith) refl (ends_result None [])
-ends_place R.at_create = before {e' = 1} _ (t.Word [] w.Table) (s.Flat p.CreateTable) (λ n. omega arith) refl ends_create_table
+unfolding step finish place_step create_step drop_step insert_step update_step delete_step select_step place_finish
+ends_place R.at_start = before {e' = 0} _ (t.Word [] w.Select) (s.Flat (p.Select (sp.Result (L.query None)))) (λ n. omega arith) refl (ends_result None [])
+ends_place R.at_create = before {e' = 1} _ (t.Word [] w.Table) (s.Flat (p.Create cp.Table)) (λ n. omega arith) refl ends_create_table
 ends_place R.at_create_table = ends_create_table
-ends_place (R.at_create_if {n = n}) = before {e' = 0} _ t.Open (s.Flat (p.ColumnStart (new_table false n))) (λ n. omega arith) refl (ends_columns _)
-ends_place R.at_create_if_not = before {e' = 1} _ (t.Word [] w.Exists) (s.Flat p.CreateIfNotExists) (λ n. omega arith) refl ends_create_if_not_exists
+ends_place (R.at_create_if {n = n}) = before {e' = 0} _ t.Open (s.Flat (p.Create (cp.ColumnStart (new_table false n)))) (λ n. omega arith) refl (ends_columns _)
+ends_place R.at_create_if_not = before {e' = 1} _ (t.Word [] w.Exists) (s.Flat (p.Create cp.IfNotExists)) (λ n. omega arith) refl ends_create_if_not_exists
 ends_place R.at_create_if_not_exists = ends_create_if_not_exists
 ends_place (R.at_create_named {b = b} {n = n} i k) = ends_create_named b n
 ends_place (R.at_column_start {z = z} i) = ends_columns z
 ends_place (R.at_column_named {z = z} {n = n} i k) = ends_kind z n
 ends_place (R.at_column {z = z} {d = d} i j) = ends_column z d
-ends_place (R.at_primary {z = z} {d = d} i j g) = before {e' = 0} _ (t.Word [] w.Key) (s.Flat (p.Column z (L.with_primary d))) (λ n. omega arith) refl (ends_column _ _)
-ends_place (R.at_not {z = z} {d = d} i j g) = before {e' = 0} _ (t.Word [] w.Null) (s.Flat (p.Column z (L.with_not_null d))) (λ n. omega arith) refl (ends_column _ _)
-ends_place R.at_drop = before {e' = 0} _ (t.Word [] w.Table) (s.Flat p.DropTable) (λ n. omega arith) refl ends_drop_table
+ends_place (R.at_primary {z = z} {d = d} i j g) = before {e' = 0} _ (t.Word [] w.Key) (s.Flat (p.Create (cp.Column z (L.with_primary d)))) (λ n. omega arith) refl (ends_column _ _)
+ends_place (R.at_not {z = z} {d = d} i j g) = before {e' = 0} _ (t.Word [] w.Null) (s.Flat (p.Create (cp.Column z (L.with_not_null d)))) (λ n. omega arith) refl (ends_column _ _)
+ends_place R.at_drop = before {e' = 0} _ (t.Word [] w.Table) (s.Flat (p.Drop dp.Table)) (λ n. omega arith) refl ends_drop_table
 ends_place R.at_drop_table = ends_drop_table
 ends_place (R.at_drop_if {n = n}) = here _ (stmt.Drop false n) refl (omega arith)
 ends_place R.at_drop_if_exists = before {e' = 0} _ (t.Quoted []) (s.Flat (p.Ended (stmt.Drop true []))) (λ n. omega arith) refl (ends_ended _)
-ends_place R.at_insert = before {e' = 0} _ (t.Word [] w.Into) (s.Flat p.Into) (λ n. omega arith) refl ends_into
+ends_place R.at_insert = before {e' = 0} _ (t.Word [] w.Into) (s.Flat (p.Insert ip.Into)) (λ n. omega arith) refl ends_into
 ends_place R.at_into = ends_into
 ends_place (R.at_table {n = n} k) = ends_table n
 ends_place (R.at_name_start {n = n} {ns = ns} k b) = ends_name_start n ns
@@ -306,18 +312,18 @@ ends_place (R.at_names {n = n} {ns = ns} k j) = ends_names n ns
 ends_place (R.at_columns {n = n} {ns = ns} k j) = ends_target (target n ns)
 ends_place (R.at_values {n = n} {ns = ns} {rs = rs} k j b) = ends_values (target n ns) rs
 ends_place (R.at_rows {n = n} {ns = ns} {rs = rs} k j b) = here _ (L.insert (target n ns) rs) refl (omega arith)
-ends_place R.at_update = before {e' = 0} _ (t.Quoted []) (s.Flat (p.UpdateTable [])) (λ n. omega arith) refl (ends_update_table [])
+ends_place R.at_update = before {e' = 0} _ (t.Quoted []) (s.Flat (p.Update (up.Table []))) (λ n. omega arith) refl (ends_update_table [])
 ends_place (R.at_update_table {n = n} k) = ends_update_table n
 ends_place (R.at_set_start {n = n} {is = is} k b) = ends_set_start n is
 ends_place (R.at_set_name {n = n} {k = m} {is = is} k b j) = ends_set_name n is m
 ends_place (R.at_sets {n = n} {is = is} k j) = here _ (stmt.Update n is None) refl (omega arith)
-ends_place R.at_delete = before {e' = 0} _ (t.Word [] w.From) (s.Flat p.DeleteFrom) (λ n. omega arith) refl ends_delete_from
+ends_place R.at_delete = before {e' = 0} _ (t.Word [] w.From) (s.Flat (p.Delete del.From)) (λ n. omega arith) refl ends_delete_from
 ends_place R.at_delete_from = ends_delete_from
 ends_place (R.at_delete_table {n = n} k) = ends_delete_table n
 ends_place (R.at_result {i = i} {is = is} o b) = ends_result i is
 ends_place (R.at_alias {i = i} {is = is} {a = a} o b k) =
     let d = add_result (R.results (L.query i) is) (item.Value a (Some [])) in
-    before {e' = 0} _ (t.Quoted []) (s.Flat (p.Tail stage.Results d)) (λ n. omega arith) refl (here _ (selected d) refl (omega (arith, selected_depth d, results_more is (item.Value a (Some [])))))
+    before {e' = 0} _ (t.Quoted []) (s.Flat (p.Select (sp.Tail stage.Results d))) (λ n. omega arith) refl (here _ (selected d) refl (omega (arith, selected_depth d, results_more is (item.Value a (Some [])))))
 ends_place (R.tail_results k) = ends_selected (R.tail_results k)
 ends_place (R.tail_source k) = ends_selected (R.tail_source k)
 ends_place (R.tail_filtered k) = ends_selected (R.tail_filtered k)
@@ -325,7 +331,7 @@ ends_place (R.tail_ordered k l) = ends_selected (R.tail_ordered k l)
 ends_place (R.tail_limited k) = ends_selected (R.tail_limited k)
 ends_place (R.at_from (R.with_results {i = i} {is = is} o l)) =
     let d = L.with_table (R.results (L.query i) is) [] in
-    before {e' = 0} _ (t.Quoted []) (s.Flat (p.Tail stage.Source d)) (λ n. omega arith) refl (here _ (selected d) refl (omega (arith, selected_depth d)))
+    before {e' = 0} _ (t.Quoted []) (s.Flat (p.Select (sp.Tail stage.Source d))) (λ n. omega arith) refl (here _ (selected d) refl (omega (arith, selected_depth d)))
 ends_place (R.at_order (R.with_filter {a = g} (R.with_source {n = n} (R.with_results {i = i} {is = is} o l) k) j)) =
     before {e' = 0} _ (t.Word [] w.By) (s.Operand (f.Clause (c.Order (R.filtered (R.sourced (R.results (L.query i) is) n) g)) ∷ [])) (λ n. omega arith) refl (wider _ (omega arith) (ends_operand _ (clause_fit (order_ends i is n g []))))
 ends_place (R.at_ended {r = r} k) = ends_ended r

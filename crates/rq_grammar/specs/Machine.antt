@@ -15,6 +15,9 @@ use Rattle.rq_grammar.specs.declared.place.Query.{Query}
 use Rattle.rq_grammar.specs.declared.place.Stage.TheVariants as stage
 use Rattle.rq_grammar.specs.declared.place.Place.{Place}
 use Rattle.rq_grammar.specs.declared.place.Place.TheVariants as p
+use Rattle.rq_grammar.specs.declared.place.InsertPlace.TheVariants as ip
+use Rattle.rq_grammar.specs.declared.place.UpdatePlace.TheVariants as up
+use Rattle.rq_grammar.specs.declared.place.SelectPlace.TheVariants as sp
 use Rattle.rq_grammar.specs.declared.frame.Clause.{Clause}
 use Rattle.rq_grammar.specs.declared.frame.Clause.TheVariants as c
 use Rattle.rq_grammar.specs.declared.frame.Frame.{Frame}
@@ -30,12 +33,12 @@ use Rattle.rq_grammar.specs.Places.{flat, inside, add_result, with_filter, add_t
 -- where the machine stands once the clause's expression has ended; a row goes on or is closed
 abbrev pub land : Clause → Expr → Option Place
 land (c.Row i rs xs) a = None
-land (c.Results q) a = Some (p.Tail stage.Results (add_result q (item.Value a None)))
-land (c.Filter q) a = Some (p.Tail stage.Filtered (with_filter q a))
-land (c.Order q) a = Some (p.Tail stage.Ordered (add_term q (rising a)))
-land (c.Limit q) a = Some (p.Tail stage.Limited (with_limit q a))
-land (c.Offset q) a = Some (p.Tail stage.Limited (with_offset q a))
-land (c.Set n is m) a = Some (p.Sets n (is ++ (m, a) ∷ []))
+land (c.Results q) a = Some (p.Select (sp.Tail stage.Results (add_result q (item.Value a None))))
+land (c.Filter q) a = Some (p.Select (sp.Tail stage.Filtered (with_filter q a)))
+land (c.Order q) a = Some (p.Select (sp.Tail stage.Ordered (add_term q (rising a))))
+land (c.Limit q) a = Some (p.Select (sp.Tail stage.Limited (with_limit q a)))
+land (c.Offset q) a = Some (p.Select (sp.Tail stage.Limited (with_offset q a)))
+land (c.Set n is m) a = Some (p.Update (up.Sets n (is ++ (m, a) ∷ [])))
 land (c.UpdateFilter n is) a = Some (p.Ended (stmt.Update n is (Some a)))
 land (c.DeleteFilter n) a = Some (p.Ended (stmt.Delete n (Some a)))
 
@@ -51,16 +54,16 @@ landed_end (Some x) = place_finish x
 
 abbrev pub row_on : Target → List (List Expr) → List Expr → Expr → Token → Option State
 row_on i rs xs a t.Comma = inside (c.Row i rs (xs ++ a ∷ []))
-row_on i rs xs a t.Close = flat (p.Rows i (rs ++ (xs ++ a ∷ []) ∷ []))
+row_on i rs xs a t.Close = flat (p.Insert (ip.Rows i (rs ++ (xs ++ a ∷ []) ∷ [])))
 row_on i rs xs a _ = None
 
 abbrev pub results_on : Query → Expr → Token → Option State
-results_on q a (t.Word n w.As) = flat (p.Alias q a)
+results_on q a (t.Word n w.As) = flat (p.Select (sp.Alias q a))
 results_on q a u = landed (land (c.Results q) a) u
 
 abbrev pub order_on : Query → Expr → Token → Option State
-order_on q a (t.Word n w.Asc) = flat (p.Tail stage.Ordered (add_term q (rising a)))
-order_on q a (t.Word n w.Desc) = flat (p.Tail stage.Ordered (add_term q (falling a)))
+order_on q a (t.Word n w.Asc) = flat (p.Select (sp.Tail stage.Ordered (add_term q (rising a))))
+order_on q a (t.Word n w.Desc) = flat (p.Select (sp.Tail stage.Ordered (add_term q (falling a))))
 order_on q a u = landed (land (c.Order q) a) u
 
 abbrev pub limit_on : Query → Expr → Token → Option State

@@ -4,6 +4,10 @@ use Rattle.rq_grammar.specs.declared.stmt.Stmt.{Stmt}
 use Rattle.rq_grammar.specs.declared.place.Stage.TheVariants as stage
 use Rattle.rq_grammar.specs.declared.place.Place.{Place}
 use Rattle.rq_grammar.specs.declared.place.Place.TheVariants as p
+use Rattle.rq_grammar.specs.declared.place.CreatePlace.TheVariants as cp
+use Rattle.rq_grammar.specs.declared.place.InsertPlace.TheVariants as ip
+use Rattle.rq_grammar.specs.declared.place.UpdatePlace.TheVariants as up
+use Rattle.rq_grammar.specs.declared.place.SelectPlace.TheVariants as sp
 use Rattle.rq_grammar.specs.declared.frame.Frame.TheVariants as f
 use Rattle.rq_grammar.specs.declared.frame.State.{State}
 use Rattle.rq_grammar.specs.declared.frame.State.TheVariants as s
@@ -28,18 +32,18 @@ least (f.Among b a xs ∷ st) d = least st (suc (max (depth a) (max (depths xs) 
 least (f.Clause k ∷ st) d = clause_least k d
 
 abbrev pub place_weight : Place → ℕ
-place_weight (p.Values i rs) = max 1 (rows_depth rs)
-place_weight (p.Rows i rs) = rows_depth rs
-place_weight p.Update = 1
-place_weight (p.UpdateTable n) = 1
-place_weight (p.SetStart n is) = max 1 (sets_depth is)
-place_weight (p.SetName n is m) = max 1 (sets_depth is)
-place_weight (p.Sets n is) = sets_depth is
-place_weight (p.Result q) = stage_depth stage.Results q
-place_weight (p.Alias q a) = max (stage_depth stage.Results q) (depth a)
-place_weight (p.Tail g q) = stage_depth g q
-place_weight (p.From q) = stage_depth stage.Results q
-place_weight (p.Order q) = max 1 (stage_depth stage.Filtered q)
+place_weight (p.Insert (ip.Values i rs)) = max 1 (rows_depth rs)
+place_weight (p.Insert (ip.Rows i rs)) = rows_depth rs
+place_weight (p.Update up.Begun) = 1
+place_weight (p.Update (up.Table n)) = 1
+place_weight (p.Update (up.SetStart n is)) = max 1 (sets_depth is)
+place_weight (p.Update (up.SetName n is m)) = max 1 (sets_depth is)
+place_weight (p.Update (up.Sets n is)) = sets_depth is
+place_weight (p.Select (sp.Result q)) = stage_depth stage.Results q
+place_weight (p.Select (sp.Alias q a)) = max (stage_depth stage.Results q) (depth a)
+place_weight (p.Select (sp.Tail g q)) = stage_depth g q
+place_weight (p.Select (sp.From q)) = stage_depth stage.Results q
+place_weight (p.Select (sp.Order q)) = max 1 (stage_depth stage.Filtered q)
 place_weight (p.Ended r) = deepest r
 place_weight _ = 0
 
@@ -60,13 +64,13 @@ weight (s.In st b a) = least st (suc (depth a))
 weight (s.Listed st b a) = least st (suc (depth a))
 
 abbrev pub place_due : Place → ℕ
-place_due p.Create = 1
-place_due p.CreateTable = 1
-place_due (p.CreateIf n) = 1
-place_due p.CreateIfNot = 1
-place_due p.CreateIfNotExists = 1
-place_due (p.CreateNamed b n) = 1
-place_due (p.Values i rs) = 1
+place_due (p.Create cp.Begun) = 1
+place_due (p.Create cp.Table) = 1
+place_due (p.Create (cp.If n)) = 1
+place_due (p.Create cp.IfNot) = 1
+place_due (p.Create cp.IfNotExists) = 1
+place_due (p.Create (cp.Named b n)) = 1
+place_due (p.Insert (ip.Values i rs)) = 1
 place_due _ = 0
 
 -- how many `(` must still come

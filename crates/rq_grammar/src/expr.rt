@@ -7,7 +7,7 @@ use rq_values::{Text, Value};
 use sqlite_items::{Boxed, Items};
 
 /// An operator between two operands.
-#[derive(Clone, Copy, Debug, PartialEq, Eq)]
+#[derive(Clone, Copy, PartialEq, Eq)]
 pub enum BinaryOp {
     Or,
     And,

@@ -6,11 +6,13 @@ ghost use Rattle.rq_grammar.specs.Stack.{order, room, closes, pop_of};
 ghost use Rattle.rq_grammar.specs.Popping.{PopsClosing, IsBehindPlus, is_low, PopsLow};
 ghost use Rattle.rq_grammar.specs.Weight.{least};
 ghost use Rattle.rq_grammar.specs.Load.{clause_least, is_clause, needs, adds, height, floor};
+ghost use Rattle.rq_grammar.specs.Machine.{Start};
 
 use crate::expr::BinaryOp;
 use crate::measured::{Measured, MeasuredList, MeasuredRows, MeasuredSets, above};
 use crate::place::{MeasuredQuery, Place, Target};
 use rq_values::{NoMemory, Text};
+use sqlite_items::Boxed;
 use std::alloc::Global;
 use std::marker::Model;
 
@@ -83,7 +85,7 @@ pub enum Frame {
         list: MeasuredList,
     },
     /// The clause, always outermost.
-    Clause(Clause),
+    Clause(Boxed<Clause>),
 }
 
 impl Frame {
@@ -149,11 +151,34 @@ impl Frame {
 }
 
 /// A frame, what the stack up to it needs of a statement's depth, and the levels above its operand.
-#[derive(Drop)]
 struct Held {
     frame: Frame,
     floor: u8,
     height: u8,
+}
+
+impl Drop for Held {
+    fn drop(self) {
+        let Held {
+            frame,
+            floor: _,
+            height: _,
+        } = self;
+        drop(frame);
+    }
+}
+
+impl Held {
+    fn into_frame(self) -> Frame
+        ensures { result ≡ self.frame }
+    {
+        let Held {
+            frame,
+            floor: _,
+            height: _,
+        } = self;
+        frame
+    }
 }
 
 /// What is open, the innermost first.
@@ -198,13 +223,20 @@ impl Stack {
         requires { floor ≡ min 101 (clause_least clause 0) }
         ensures { IfOk result (λ st. st ≡ f.Clause clause ∷ []) }
     {
+        let frame = Frame::Clause(Boxed::new(alloc, clause)?);
         let mut held = Vec::new(alloc);
-        held.push(Held {
-            frame: Frame::Clause(clause),
+        match held.push(Held {
+            frame,
             floor,
             height: 0,
-        })?;
-        Ok(Stack { held })
+        }) {
+            Ok(()) => Ok(Stack { held }),
+            Err(failed) => {
+                drop(failed);
+                drop(held);
+                Err(NoMemory)
+            }
+        }
     }
 
     /// Puts a frame on that is no clause.
@@ -228,7 +260,7 @@ impl Stack {
     {
         match self.held.pop() {
             None => None,
-            Some(held) => Some(held.frame),
+            Some(held) => Some(held.into_frame()),
         }
     }
 
@@ -309,7 +341,7 @@ impl Stack {
 #[derive(Drop)]
 pub enum State {
     /// Between expressions.
-    Flat(Place),
+    Flat(Boxed<Place>),
     /// An operand is to come.
     Operand(Stack),
     /// An operand is to come, directly behind a front `-`.
@@ -334,4 +366,13 @@ pub enum State {
     In(Stack, bool, Measured),
     /// `operand IN (`
     Listed(Stack, bool, Measured),
+}
+
+impl State {
+    /// Before the first token.
+    pub fn start(alloc: Global) -> Result<State, NoMemory>
+        ensures { IfOk result (λ q. q ≡ Start) }
+    {
+        Ok(State::Flat(Boxed::new(alloc, Place::Start)?))
+    }
 }

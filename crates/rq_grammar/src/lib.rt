@@ -20,7 +20,10 @@ pub use laws::{
     canonical_tokens, one_place, one_statement, reads_what_is_spelled, reads_within_limits,
 };
 pub use measured::{Measured, MeasuredList, MeasuredRows, MeasuredSets};
-pub use place::{MeasuredQuery, MeasuredStmt, NewTable, Place, Query, Stage, Target};
+pub use place::{
+    CreatePlace, DeletePlace, DropPlace, InsertPlace, MeasuredQuery, MeasuredStmt, NewTable, Place,
+    Query, SelectPlace, Stage, Target, UpdatePlace,
+};
 pub use stmt::{ColumnDef, ColumnKind, InsertRows, OrderTerm, ResultItem, SelectStmt, Stmt};
 pub use token::Token;
 pub use word::Word;

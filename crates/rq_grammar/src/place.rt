@@ -384,21 +384,21 @@ fn measured(expr: Option<Measured>) -> (Option<Expr>, u8)
     }
 }
 
+/// Where in a `CREATE` the machine stands.
 #[derive(Drop)]
-pub enum Place {
-    Start,
+pub enum CreatePlace {
     /// `CREATE`
-    Create,
+    Begun,
     /// `CREATE TABLE`
-    CreateTable,
+    Table,
     /// `CREATE TABLE if`: the word or the table's name.
-    CreateIf(Text),
+    If(Text),
     /// `CREATE TABLE IF NOT`
-    CreateIfNot,
+    IfNot,
     /// `CREATE TABLE IF NOT EXISTS`
-    CreateIfNotExists,
+    IfNotExists,
     /// `CREATE TABLE [IF NOT EXISTS] name`
-    CreateNamed(bool, Text),
+    Named(bool, Text),
     /// A column is to come.
     ColumnStart(NewTable),
     /// Behind a column's name.
@@ -409,16 +409,26 @@ pub enum Place {
     ColumnPrimary(NewTable, ColumnDef),
     /// Behind a column's `NOT`.
     ColumnNot(NewTable, ColumnDef),
+}
+
+/// Where in a `DROP` the machine stands.
+#[derive(Drop)]
+pub enum DropPlace {
     /// `DROP`
-    Drop,
+    Begun,
     /// `DROP TABLE`
-    DropTable,
+    Table,
     /// `DROP TABLE if`: the word or the table's name.
-    DropIf(Text),
+    If(Text),
     /// `DROP TABLE IF EXISTS`
-    DropIfExists,
+    IfExists,
+}
+
+/// Where in an `INSERT` the machine stands, up to its select.
+#[derive(Drop)]
+pub enum InsertPlace {
     /// `INSERT`
-    Insert,
+    Begun,
     /// `INSERT INTO`
     Into,
     /// `INSERT INTO table`
@@ -433,22 +443,37 @@ pub enum Place {
     Values(Target, MeasuredRows),
     /// Behind a row.
     Rows(Target, MeasuredRows),
+}
+
+/// Where in an `UPDATE` the machine stands.
+#[derive(Drop)]
+pub enum UpdatePlace {
     /// `UPDATE`
-    Update,
+    Begun,
     /// `UPDATE table`
-    UpdateTable(Text),
+    Table(Text),
     /// `UPDATE table SET name = expr, .. ,`
     SetStart(Text, MeasuredSets),
     /// `UPDATE table SET name = expr, .. , name`
     SetName(Text, MeasuredSets, Text),
     /// `UPDATE table SET name = expr, ..`
     Sets(Text, MeasuredSets),
+}
+
+/// Where in a `DELETE` the machine stands.
+#[derive(Drop)]
+pub enum DeletePlace {
     /// `DELETE`
-    Delete,
+    Begun,
     /// `DELETE FROM`
-    DeleteFrom,
+    From,
     /// `DELETE FROM table`
-    DeleteTable(Text),
+    Table(Text),
+}
+
+/// Where in a select the machine stands.
+#[derive(Drop)]
+pub enum SelectPlace {
     /// A result is to come.
     Result(MeasuredQuery),
     /// `expr AS`
@@ -459,6 +484,18 @@ pub enum Place {
     From(MeasuredQuery),
     /// `.. ORDER`
     Order(MeasuredQuery),
+}
+
+/// Where in a text the machine stands between expressions, by statement.
+#[derive(Drop)]
+pub enum Place {
+    Start,
+    Create(CreatePlace),
+    Drop(DropPlace),
+    Insert(InsertPlace),
+    Update(UpdatePlace),
+    Delete(DeletePlace),
+    Select(SelectPlace),
     /// A whole statement.
     Ended(MeasuredStmt),
 }

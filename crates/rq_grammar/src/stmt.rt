@@ -4,7 +4,7 @@ use crate::expr::Expr;
 use rq_values::Text;
 use sqlite_items::Items;
 
-#[derive(Clone, Copy, Debug, PartialEq, Eq)]
+#[derive(Clone, Copy, PartialEq, Eq)]
 pub enum ColumnKind {
     Integer,
     Text,
@@ -51,7 +51,6 @@ pub enum InsertRows {
     Select(SelectStmt),
 }
 
-#[derive(Drop)]
 pub enum Stmt {
     Create {
         if_not_exists: bool,
@@ -77,4 +76,46 @@ pub enum Stmt {
         filter: Option<Expr>,
     },
     Select(SelectStmt),
+}
+
+impl Drop for Stmt {
+    fn drop(self) {
+        match self {
+            Stmt::Create {
+                if_not_exists: _,
+                table,
+                columns,
+            } => {
+                drop(table);
+                drop(columns);
+            }
+            Stmt::Drop {
+                if_exists: _,
+                table,
+            } => drop(table),
+            Stmt::Insert {
+                table,
+                columns,
+                rows,
+            } => {
+                drop(table);
+                drop(columns);
+                drop(rows);
+            }
+            Stmt::Update {
+                table,
+                sets,
+                filter,
+            } => {
+                drop(table);
+                drop(sets);
+                drop(filter);
+            }
+            Stmt::Delete { table, filter } => {
+                drop(table);
+                drop(filter);
+            }
+            Stmt::Select(select) => drop(select),
+        }
+    }
 }

@@ -6,11 +6,13 @@ use Rattle.rq_grammar.specs.declared.token.Token.TheVariants as t
 use Rattle.rq_grammar.specs.declared.stmt.Stmt.TheVariants as stmt
 use Rattle.rq_grammar.specs.declared.place.Query.{Query}
 use Rattle.rq_grammar.specs.declared.place.Place.TheVariants as p
+use Rattle.rq_grammar.specs.declared.place.DropPlace.TheVariants as dp
+use Rattle.rq_grammar.specs.declared.place.SelectPlace.TheVariants as sp
 use Rattle.rq_grammar.specs.declared.frame.Clause.TheVariants as c
 use Rattle.rq_grammar.specs.Places.{flat, inside, name_of, on_name, behind_drop_table, behind_where, behind_from, behind_results}
 use Rattle.rq_machine.specs.Keywords.{is_if, is_from, is_where}
 
-pub drop_then : (u : Token) → is_if u ≡ true → behind_drop_table u ≡ on_name (name_of u) p.DropIf
+pub drop_then : (u : Token) → is_if u ≡ true → behind_drop_table u ≡ on_name (name_of u) (λ z. p.Drop (dp.If z))
 drop_then (t.Word n w.If) h = refl
 drop_then _ h = absurd (cc)
 
@@ -26,7 +28,7 @@ pub from_else : (q : Query) (u : Token) → is_where u ≡ false → behind_from
 from_else q (t.Word n w.Where) h = absurd (cc)
 from_else q _ h = refl
 
-pub results_then : (q : Query) (u : Token) → is_from u ≡ true → behind_results q u ≡ flat (p.From q)
+pub results_then : (q : Query) (u : Token) → is_from u ≡ true → behind_results q u ≡ flat (p.Select (sp.From q))
 results_then q (t.Word n w.From) h = refl
 results_then q _ h = absurd (cc)
 

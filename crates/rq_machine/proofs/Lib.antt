@@ -1,4 +1,4 @@
 pub mod Keywords
 pub mod Small
-pub mod Raised
 pub mod Marks
+pub mod OneAnswer

@@ -1,5 +1,4 @@
 pub mod Behind
 pub mod Keywords
-pub mod Later
 pub mod Marks
 pub mod Stop

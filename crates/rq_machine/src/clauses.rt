@@ -4,13 +4,18 @@ ghost use Rattle.std.specs.Prelude.{◌≡◌, ◌++◌, ◌∷◌, [], None, If
 ghost use Rattle.rq_grammar.specs.Machine as machine;
 ghost use Rattle.rq_grammar.specs.Places as spec;
 ghost use Rattle.rq_grammar.specs.declared.frame.Frame.TheVariants as f;
+ghost use Rattle.rq_grammar.specs.declared.place.Place.TheVariants as p;
+ghost use Rattle.rq_grammar.specs.declared.place.InsertPlace.TheVariants as ip;
+ghost use Rattle.rq_grammar.specs.declared.place.SelectPlace.TheVariants as sp;
+ghost use Rattle.rq_grammar.specs.declared.place.Stage.TheVariants as stage;
 
-use crate::names::Step;
+use crate::names::{Step, at, behind};
 use crate::place_weights::clause_floor;
 use crate::places::{place_finish, place_step};
+use crate::select::tail_at;
 use rq_grammar::{
-    Clause, Measured, MeasuredList, MeasuredQuery, MeasuredRows, MeasuredSets, MeasuredStmt, Place,
-    Stack, Stage, State, Stmt, Target, Token, Word,
+    Clause, InsertPlace, Measured, MeasuredList, MeasuredQuery, MeasuredRows, MeasuredSets,
+    MeasuredStmt, Place, SelectPlace, Stack, Stage, State, Stmt, Target, Token, UpdatePlace, Word,
 };
 use rq_values::{NoMemory, Text};
 use std::alloc::Global;
@@ -27,74 +32,111 @@ pub(crate) fn stack_of(alloc: Global, clause: Clause) -> Result<Stack, NoMemory>
 pub(crate) fn inside(alloc: Global, clause: Clause) -> Step
     ensures { IfOk result (λ next. next ≡ spec.inside clause) }
 {
-    Ok(Some(State::Operand(stack_of(alloc, clause)?)))
+    match stack_of(alloc, clause) {
+        Ok(stack) => Ok(Some(State::Operand(stack))),
+        Err(error) => Err(error),
+    }
 }
 
 /// The row with one more expression at its end.
 fn with_expr(mut row: MeasuredList, expr: Measured) -> Result<MeasuredList, NoMemory>
     ensures { IfOk result (λ xs. xs ≡ row ++ expr ∷ []) }
 {
-    row.push(expr)?;
-    Ok(row)
+    match row.push(expr) {
+        Ok(()) => Ok(row),
+        Err(error) => {
+            drop(row);
+            Err(error)
+        }
+    }
 }
 
 /// The rows with one more at their end.
 fn with_row(mut rows: MeasuredRows, row: MeasuredList) -> Result<MeasuredRows, NoMemory>
     ensures { IfOk result (λ rs. rs ≡ rows ++ row ∷ []) }
 {
-    rows.push(row)?;
-    Ok(rows)
+    match rows.push(row) {
+        Ok(()) => Ok(rows),
+        Err(error) => {
+            drop(rows);
+            Err(error)
+        }
+    }
 }
 
 /// What is set, with one more column at its end.
 fn with_set(mut sets: MeasuredSets, name: Text, expr: Measured) -> Result<MeasuredSets, NoMemory>
     ensures { IfOk result (λ is. is ≡ sets ++ (name, expr) ∷ []) }
 {
-    sets.push(name, expr)?;
-    Ok(sets)
+    match sets.push(name, expr) {
+        Ok(()) => Ok(sets),
+        Err(error) => {
+            drop(sets);
+            Err(error)
+        }
+    }
+}
+
+/// Behind a part of a select.
+fn tail(stage: Stage, query: MeasuredQuery) -> Place
+    ensures { result ≡ p.Select (sp.Tail stage query) }
+{
+    Place::Select(SelectPlace::Tail(stage, query))
 }
 
 /// Where the machine stands once the clause's expression has ended. A row goes on or is closed.
 fn land(clause: Clause, expr: Measured) -> Result<Option<Place>, NoMemory>
     ensures { IfOk result (λ place. place ≡ machine.land clause expr) }
 {
-    Ok(match clause {
+    match clause {
         Clause::Row { target, rows, row } => {
             drop(target);
             drop(rows);
             drop(row);
             drop(expr);
-            None
+            Ok(None)
         }
-        Clause::Results(query) => {
-            Some(Place::Tail(Stage::Results, query.with_result(expr, None)?))
-        }
-        Clause::Filter(query) => Some(Place::Tail(Stage::Filtered, query.with_filter(expr))),
-        Clause::Order(query) => Some(Place::Tail(Stage::Ordered, query.with_term(expr, false)?)),
-        Clause::Limit(query) => Some(Place::Tail(Stage::Limited, query.with_limit(expr))),
-        Clause::Offset(query) => Some(Place::Tail(Stage::Limited, query.with_offset(expr))),
-        Clause::Set { table, sets, name } => {
-            Some(Place::Sets(table, with_set(sets, name, expr)?))
-        }
+        Clause::Results(query) => match query.with_result(expr, None) {
+            Ok(query) => Ok(Some(tail(Stage::Results, query))),
+            Err(error) => Err(error),
+        },
+        Clause::Filter(query) => Ok(Some(tail(Stage::Filtered, query.with_filter(expr)))),
+        Clause::Order(query) => match query.with_term(expr, false) {
+            Ok(query) => Ok(Some(tail(Stage::Ordered, query))),
+            Err(error) => Err(error),
+        },
+        Clause::Limit(query) => Ok(Some(tail(Stage::Limited, query.with_limit(expr)))),
+        Clause::Offset(query) => Ok(Some(tail(Stage::Limited, query.with_offset(expr)))),
+        Clause::Set { table, sets, name } => match with_set(sets, name, expr) {
+            Ok(sets) => Ok(Some(Place::Update(UpdatePlace::Sets(table, sets)))),
+            Err(error) => {
+                drop(table);
+                Err(error)
+            }
+        },
         Clause::UpdateFilter { table, sets } => {
-            Some(Place::Ended(MeasuredStmt::update(table, sets, Some(expr))))
+            Ok(Some(Place::Ended(MeasuredStmt::update(table, sets, Some(expr)))))
         }
         Clause::DeleteFilter(table) => {
-            Some(Place::Ended(MeasuredStmt::delete(table, Some(expr))))
+            Ok(Some(Place::Ended(MeasuredStmt::delete(table, Some(expr)))))
         }
-    })
+    }
 }
 
 /// The token behind the whole of the clause.
 fn landed(alloc: Global, clause: Clause, expr: Measured, token: Token) -> Step
     ensures { IfOk result (λ next. next ≡ machine.landed (machine.land clause expr) token) }
 {
-    match land(clause, expr)? {
-        None => {
+    match land(clause, expr) {
+        Ok(None) => {
             drop(token);
             Ok(None)
         }
-        Some(place) => place_step(alloc, place, token),
+        Ok(Some(place)) => place_step(alloc, place, token),
+        Err(error) => {
+            drop(token);
+            Err(error)
+        }
     }
 }
 
@@ -102,9 +144,10 @@ fn landed(alloc: Global, clause: Clause, expr: Measured, token: Token) -> Step
 pub(crate) fn landed_end(clause: Clause, expr: Measured) -> Result<Option<Stmt>, NoMemory>
     ensures { IfOk result (λ stmt. stmt ≡ machine.landed_end (machine.land clause expr)) }
 {
-    match land(clause, expr)? {
-        None => Ok(None),
-        Some(place) => Ok(place_finish(place)),
+    match land(clause, expr) {
+        Ok(None) => Ok(None),
+        Ok(Some(place)) => Ok(place_finish(place)),
+        Err(error) => Err(error),
     }
 }
 
@@ -120,20 +163,41 @@ fn row_on(
     ensures { IfOk result (λ next. next ≡ machine.row_on target rows row expr token.now) }
 {
     match token {
-        Token::Comma => {
-            let row = with_expr(row, expr)?;
-            inside(alloc, Clause::Row { target, rows, row })
-        }
-        Token::Close => {
-            let row = with_expr(row, expr)?;
-            Ok(Some(State::Flat(Place::Rows(target, with_row(rows, row)?))))
-        }
+        Token::Comma => match with_expr(row, expr) {
+            Ok(row) => inside(alloc, Clause::Row { target, rows, row }),
+            Err(error) => {
+                drop(target);
+                drop(rows);
+                Err(error)
+            }
+        },
+        Token::Close => match with_expr(row, expr) {
+            Ok(row) => closed(alloc, target, rows, row),
+            Err(error) => {
+                drop(target);
+                drop(rows);
+                Err(error)
+            }
+        },
         _ => {
             drop(target);
             drop(rows);
             drop(row);
             drop(expr);
             Ok(None)
+        }
+    }
+}
+
+/// Behind a row.
+fn closed(alloc: Global, target: Target, rows: MeasuredRows, row: MeasuredList) -> Step
+    ensures { IfOk result (λ next. next ≡ spec.flat (p.Insert (ip.Rows target (rows ++ row ∷ [])))) }
+{
+    match with_row(rows, row) {
+        Ok(rows) => at(alloc, Place::Insert(InsertPlace::Rows(target, rows))),
+        Err(error) => {
+            drop(target);
+            Err(error)
         }
     }
 }
@@ -145,9 +209,19 @@ fn results_on(alloc: Global, query: MeasuredQuery, expr: Measured, token: Token)
     match &token {
         Token::Word(_, Word::As) => {
             drop(token);
-            Ok(Some(State::Flat(Place::Alias(query, expr))))
+            at(alloc, Place::Select(SelectPlace::Alias(query, expr)))
         }
         _ => landed(alloc, Clause::Results(query), expr, token),
+    }
+}
+
+/// Behind a term of the order and its direction.
+fn directed(alloc: Global, query: MeasuredQuery, expr: Measured, descending: bool) -> Step
+    ensures { IfOk result (λ next. next ≡ spec.flat (p.Select (sp.Tail stage.Ordered (spec.add_term query (record { expr = expr; descending = descending }))))) }
+{
+    match query.with_term(expr, descending) {
+        Ok(query) => tail_at(alloc, Stage::Ordered, query),
+        Err(error) => Err(error),
     }
 }
 
@@ -158,13 +232,11 @@ fn order_on(alloc: Global, query: MeasuredQuery, expr: Measured, token: Token) -
     match &token {
         Token::Word(_, Word::Asc) => {
             drop(token);
-            let query = query.with_term(expr, false)?;
-            Ok(Some(State::Flat(Place::Tail(Stage::Ordered, query))))
+            directed(alloc, query, expr, false)
         }
         Token::Word(_, Word::Desc) => {
             drop(token);
-            let query = query.with_term(expr, true)?;
-            Ok(Some(State::Flat(Place::Tail(Stage::Ordered, query))))
+            directed(alloc, query, expr, true)
         }
         _ => landed(alloc, Clause::Order(query), expr, token),
     }
@@ -189,7 +261,9 @@ pub(crate) fn clause_on(alloc: Global, clause: Clause, expr: Measured, token: To
     ensures { IfOk result (λ next. next ≡ machine.clause_on clause expr token) }
 {
     match clause {
-        Clause::Row { target, rows, row } => row_on(alloc, target, rows, row, expr, &token),
+        Clause::Row { target, rows, row } => {
+            behind(row_on(alloc, target, rows, row, expr, &token), token)
+        }
         Clause::Results(query) => results_on(alloc, query, expr, token),
         Clause::Filter(query) => landed(alloc, Clause::Filter(query), expr, token),
         Clause::Order(query) => order_on(alloc, query, expr, token),

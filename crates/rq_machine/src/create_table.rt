@@ -4,138 +4,176 @@ ghost use Rattle.std.specs.Prelude.{◌≡◌, None, IfOk};
 ghost use Rattle.rq_grammar.specs.Places as spec;
 ghost use Rattle.rq_grammar.specs.Statements.{plain_column};
 ghost use Rattle.rq_grammar.specs.declared.place.Place.TheVariants as p;
+ghost use Rattle.rq_grammar.specs.declared.place.CreatePlace.TheVariants as cp;
 
-use crate::names::{Step, name_of};
-use rq_grammar::{ColumnDef, ColumnKind, MeasuredStmt, NewTable, Place, State, Token, Word};
+use crate::names::{Step, at, behind, name_of};
+use rq_grammar::{ColumnDef, ColumnKind, CreatePlace, MeasuredStmt, NewTable, Place, Token, Word};
 use rq_values::{NoMemory, Text};
 use sqlite_items::Items;
 use std::alloc::Global;
 
+/// The state behind the token, at a place of a `CREATE`.
+#[tactic(auto, unfolding(rq_grammar::specs::Places::create_step))]
+pub(crate) fn create_step(alloc: Global, place: CreatePlace, token: Token) -> Step
+    ensures { IfOk result (λ next. next ≡ spec.create_step place token) }
+{
+    match place {
+        CreatePlace::Begun => behind(behind_create(alloc, &token), token),
+        CreatePlace::Table => behind_create_table(alloc, token),
+        CreatePlace::If(table) => behind(behind_create_if(alloc, table, &token), token),
+        CreatePlace::IfNot => behind(behind_create_if_not(alloc, &token), token),
+        CreatePlace::IfNotExists => create_named(alloc, true, token),
+        CreatePlace::Named(if_not_exists, table) => {
+            behind(
+                behind_create_named(alloc, if_not_exists, table, &token),
+                token,
+            )
+        }
+        CreatePlace::ColumnStart(table) => column_named(alloc, table, token),
+        CreatePlace::ColumnNamed(table, name) => {
+            behind(behind_column_name(alloc, table, name, &token), token)
+        }
+        CreatePlace::Column(table, column) => {
+            behind(behind_column(alloc, table, column, &token), token)
+        }
+        CreatePlace::ColumnPrimary(table, column) => {
+            behind(behind_primary(alloc, table, column, &token), token)
+        }
+        CreatePlace::ColumnNot(table, column) => {
+            behind(behind_not(alloc, table, column, &token), token)
+        }
+    }
+}
+
+/// At a place of a `CREATE`.
+fn create_at(alloc: Global, place: CreatePlace) -> Step
+    ensures { IfOk result (λ next. next ≡ spec.flat (p.Create place)) }
+{
+    at(alloc, Place::Create(place))
+}
+
 /// Behind `CREATE`.
-pub(crate) fn behind_create(token: &Token) -> Option<State>
-    ensures { result ≡ spec.behind_create token.now }
+fn behind_create(alloc: Global, token: &Token) -> Step
+    ensures { IfOk result (λ next. next ≡ spec.behind_create token.now) }
 {
     match token {
-        Token::Word(_, Word::Table) => Some(State::Flat(Place::CreateTable)),
-        _ => None,
+        Token::Word(_, Word::Table) => create_at(alloc, CreatePlace::Table),
+        _ => Ok(None),
     }
 }
 
 /// Behind `CREATE TABLE`.
-pub(crate) fn behind_create_table(token: Token) -> Option<State>
-    ensures { result ≡ spec.behind_create_table token }
+fn behind_create_table(alloc: Global, token: Token) -> Step
+    ensures { IfOk result (λ next. next ≡ spec.behind_create_table token) }
 {
     match &token {
-        Token::Word(_, Word::If) => create_if(token),
-        _ => create_named(false, token),
+        Token::Word(_, Word::If) => create_if(alloc, token),
+        _ => create_named(alloc, false, token),
     }
 }
 
 /// The name, or the word IF, is to come.
-fn create_if(token: Token) -> Option<State>
-    ensures { result ≡ spec.on_name (spec.name_of token) p.CreateIf }
+fn create_if(alloc: Global, token: Token) -> Step
+    ensures { IfOk result (λ next. next ≡ spec.on_name (spec.name_of token) (λ n. p.Create (cp.If n))) }
 {
     match name_of(token) {
-        Some(name) => Some(State::Flat(Place::CreateIf(name))),
-        None => None,
+        Some(name) => create_at(alloc, CreatePlace::If(name)),
+        None => Ok(None),
     }
 }
 
 /// The table's name is to come.
-pub(crate) fn create_named(if_not_exists: bool, token: Token) -> Option<State>
-    ensures { result ≡ spec.on_name (spec.name_of token) (p.CreateNamed if_not_exists) }
+fn create_named(alloc: Global, if_not_exists: bool, token: Token) -> Step
+    ensures { IfOk result (λ next. next ≡ spec.on_name (spec.name_of token) (λ n. p.Create (cp.Named if_not_exists n))) }
 {
     match name_of(token) {
-        Some(name) => Some(State::Flat(Place::CreateNamed(if_not_exists, name))),
-        None => None,
+        Some(name) => create_at(alloc, CreatePlace::Named(if_not_exists, name)),
+        None => Ok(None),
     }
 }
 
 /// Behind the table's name.
-pub(crate) fn behind_create_named(
-    alloc: Global,
-    if_not_exists: bool,
-    table: Text,
-    token: &Token,
-) -> Option<State>
-    ensures { result ≡ spec.behind_create_named if_not_exists table token.now }
+fn behind_create_named(alloc: Global, if_not_exists: bool, table: Text, token: &Token) -> Step
+    ensures { IfOk result (λ next. next ≡ spec.behind_create_named if_not_exists table token.now) }
 {
     match token {
-        Token::Open => Some(State::Flat(Place::ColumnStart(NewTable {
-            if_not_exists,
-            table,
-            columns: Items::new(alloc),
-        }))),
-        _ => None,
+        Token::Open => create_at(
+            alloc,
+            CreatePlace::ColumnStart(NewTable {
+                if_not_exists,
+                table,
+                columns: Items::new(alloc),
+            }),
+        ),
+        _ => {
+            drop(table);
+            Ok(None)
+        }
     }
 }
 
 /// Behind `CREATE TABLE IF`.
-pub(crate) fn behind_create_if(alloc: Global, table: Text, token: &Token) -> Option<State>
-    ensures { result ≡ spec.behind_create_if table token.now }
+fn behind_create_if(alloc: Global, table: Text, token: &Token) -> Step
+    ensures { IfOk result (λ next. next ≡ spec.behind_create_if table token.now) }
 {
     match token {
-        Token::Word(_, Word::Not) => Some(State::Flat(Place::CreateIfNot)),
+        Token::Word(_, Word::Not) => {
+            drop(table);
+            create_at(alloc, CreatePlace::IfNot)
+        }
         _ => behind_create_named(alloc, false, table, token),
     }
 }
 
 /// Behind `CREATE TABLE IF NOT`.
-pub(crate) fn behind_create_if_not(token: &Token) -> Option<State>
-    ensures { result ≡ spec.behind_create_if_not token.now }
+fn behind_create_if_not(alloc: Global, token: &Token) -> Step
+    ensures { IfOk result (λ next. next ≡ spec.behind_create_if_not token.now) }
 {
     match token {
-        Token::Word(_, Word::Exists) => Some(State::Flat(Place::CreateIfNotExists)),
-        _ => None,
+        Token::Word(_, Word::Exists) => create_at(alloc, CreatePlace::IfNotExists),
+        _ => Ok(None),
     }
 }
 
 /// A column's name is to come.
-pub(crate) fn column_named(table: NewTable, token: Token) -> Option<State>
-    ensures { result ≡ spec.on_name (spec.name_of token) (p.ColumnNamed table) }
+fn column_named(alloc: Global, table: NewTable, token: Token) -> Step
+    ensures { IfOk result (λ next. next ≡ spec.on_name (spec.name_of token) (λ n. p.Create (cp.ColumnNamed table n))) }
 {
     match name_of(token) {
-        Some(name) => Some(State::Flat(Place::ColumnNamed(table, name))),
+        Some(name) => create_at(alloc, CreatePlace::ColumnNamed(table, name)),
         None => {
             drop(table);
-            None
+            Ok(None)
         }
     }
 }
 
-/// A column without rules.
-fn plain_column(name: Text, kind: ColumnKind) -> ColumnDef
-    ensures { result ≡ plain_column name kind }
+/// Behind a column's name and its kind, of which no rule is read.
+fn column_of(alloc: Global, table: NewTable, name: Text, kind: ColumnKind) -> Step
+    ensures { IfOk result (λ next. next ≡ spec.flat (p.Create (cp.Column table (plain_column name kind)))) }
 {
-    ColumnDef {
+    let column = ColumnDef {
         name,
         kind,
         primary: false,
         not_null: false,
         unique: false,
-    }
+    };
+    create_at(alloc, CreatePlace::Column(table, column))
 }
 
 /// Behind a column's name.
-pub(crate) fn behind_column_name(table: NewTable, name: Text, token: &Token) -> Option<State>
-    ensures { result ≡ spec.behind_column_name table name token.now }
+fn behind_column_name(alloc: Global, table: NewTable, name: Text, token: &Token) -> Step
+    ensures { IfOk result (λ next. next ≡ spec.behind_column_name table name token.now) }
 {
     match token {
-        Token::Word(_, Word::Integer) => Some(State::Flat(Place::Column(
-            table,
-            plain_column(name, ColumnKind::Integer),
-        ))),
-        Token::Word(_, Word::Text) => Some(State::Flat(Place::Column(
-            table,
-            plain_column(name, ColumnKind::Text),
-        ))),
-        Token::Word(_, Word::Blob) => Some(State::Flat(Place::Column(
-            table,
-            plain_column(name, ColumnKind::Blob),
-        ))),
+        Token::Word(_, Word::Integer) => column_of(alloc, table, name, ColumnKind::Integer),
+        Token::Word(_, Word::Text) => column_of(alloc, table, name, ColumnKind::Text),
+        Token::Word(_, Word::Blob) => column_of(alloc, table, name, ColumnKind::Blob),
         _ => {
             drop(table);
-            None
+            drop(name);
+            Ok(None)
         }
     }
 }
@@ -144,82 +182,89 @@ pub(crate) fn behind_column_name(table: NewTable, name: Text, token: &Token) -> 
 fn add_column(mut table: NewTable, column: ColumnDef) -> Result<NewTable, NoMemory>
     ensures { IfOk result (λ x. x ≡ spec.add_column table column) }
 {
-    table.columns.push(column)?;
-    Ok(table)
+    match table.columns.push(column) {
+        Ok(()) => Ok(table),
+        Err(_) => {
+            drop(table);
+            Err(NoMemory)
+        }
+    }
 }
 
 /// Behind a column's kind, or one of its rules.
-pub(crate) fn behind_column(table: NewTable, column: ColumnDef, token: &Token) -> Step
+fn behind_column(alloc: Global, table: NewTable, column: ColumnDef, token: &Token) -> Step
     ensures { IfOk result (λ next. next ≡ spec.behind_column table column token.now) }
 {
-    Ok(match token {
+    match token {
         Token::Word(_, Word::Primary) => {
             if column.primary {
                 no_column(table, column)
             } else {
-                Some(State::Flat(Place::ColumnPrimary(table, column)))
+                create_at(alloc, CreatePlace::ColumnPrimary(table, column))
             }
         }
         Token::Word(_, Word::Not) => {
             if column.not_null {
                 no_column(table, column)
             } else {
-                Some(State::Flat(Place::ColumnNot(table, column)))
+                create_at(alloc, CreatePlace::ColumnNot(table, column))
             }
         }
-        Token::Word(_, Word::Unique) => unique(table, column),
-        Token::Comma => Some(State::Flat(Place::ColumnStart(add_column(table, column)?))),
-        Token::Close => Some(State::Flat(Place::Ended(MeasuredStmt::create(add_column(
-            table, column,
-        )?)))),
+        Token::Word(_, Word::Unique) => unique(alloc, table, column),
+        Token::Comma => match add_column(table, column) {
+            Ok(table) => create_at(alloc, CreatePlace::ColumnStart(table)),
+            Err(error) => Err(error),
+        },
+        Token::Close => match add_column(table, column) {
+            Ok(table) => at(alloc, Place::Ended(MeasuredStmt::create(table))),
+            Err(error) => Err(error),
+        },
         _ => no_column(table, column),
-    })
+    }
 }
 
 /// Lets go of a column behind which no such token may stand.
-fn no_column(table: NewTable, column: ColumnDef) -> Option<State>
-    ensures { result ≡ None }
+fn no_column(table: NewTable, column: ColumnDef) -> Step
+    ensures { IfOk result (λ next. next ≡ None) }
 {
     drop(table);
     drop(column);
-    None
+    Ok(None)
 }
 
 /// Behind a column's `UNIQUE`.
-fn unique(table: NewTable, column: ColumnDef) -> Option<State>
-    ensures { result ≡ spec.unset column.unique (p.Column table (spec.with_unique column)) }
+fn unique(alloc: Global, table: NewTable, mut column: ColumnDef) -> Step
+    ensures { IfOk result (λ next. next ≡ spec.unset column.unique (p.Create (cp.Column table (spec.with_unique column)))) }
 {
     if column.unique {
-        return no_column(table, column);
+        no_column(table, column)
+    } else {
+        column.unique = true;
+        create_at(alloc, CreatePlace::Column(table, column))
     }
-    let mut column = column;
-    column.unique = true;
-    Some(State::Flat(Place::Column(table, column)))
 }
 
 /// Behind `PRIMARY`.
-pub(crate) fn behind_primary(table: NewTable, column: ColumnDef, token: &Token) -> Option<State>
-    ensures { result ≡ spec.behind_primary table column token.now }
+fn behind_primary(alloc: Global, table: NewTable, mut column: ColumnDef, token: &Token) -> Step
+    ensures { IfOk result (λ next. next ≡ spec.behind_primary table column token.now) }
 {
     match token {
         Token::Word(_, Word::Key) => {
-            let mut column = column;
             column.primary = true;
-            Some(State::Flat(Place::Column(table, column)))
+            create_at(alloc, CreatePlace::Column(table, column))
         }
         _ => no_column(table, column),
     }
 }
 
 /// Behind a column's `NOT`.
-pub(crate) fn behind_not(table: NewTable, column: ColumnDef, token: &Token) -> Option<State>
-    ensures { result ≡ spec.behind_not table column token.now }
+fn behind_not(alloc: Global, table: NewTable, mut column: ColumnDef, token: &Token) -> Step
+    ensures { IfOk result (λ next. next ≡ spec.behind_not table column token.now) }
 {
     match token {
         Token::Word(_, Word::Null) => {
-            let mut column = column;
             column.not_null = true;
-            Some(State::Flat(Place::Column(table, column)))
+            create_at(alloc, CreatePlace::Column(table, column))
         }
         _ => no_column(table, column),
     }

@@ -3,40 +3,53 @@
 ghost use Rattle.std.specs.Prelude.{◌≡◌, IfOk};
 ghost use Rattle.rq_grammar.specs.Places as spec;
 ghost use Rattle.rq_grammar.specs.declared.place.Place.TheVariants as p;
+ghost use Rattle.rq_grammar.specs.declared.place.DeletePlace.TheVariants as del;
 
 use crate::clauses::inside;
 use crate::ended::behind_ended;
-use crate::names::{Step, name_of};
-use rq_grammar::{Clause, MeasuredStmt, Place, State, Token, Word};
+use crate::names::{Step, at, behind, name_of};
+use rq_grammar::{Clause, DeletePlace, MeasuredStmt, Place, Token, Word};
 use rq_values::Text;
 use std::alloc::Global;
 
+/// The state behind the token, at a place of a `DELETE`.
+#[tactic(auto, unfolding(rq_grammar::specs::Places::delete_step))]
+pub(crate) fn delete_step(alloc: Global, place: DeletePlace, token: Token) -> Step
+    ensures { IfOk result (λ next. next ≡ spec.delete_step place token) }
+{
+    match place {
+        DeletePlace::Begun => behind(behind_delete(alloc, &token), token),
+        DeletePlace::From => delete_named(alloc, token),
+        DeletePlace::Table(table) => behind(behind_delete_table(alloc, table, &token), token),
+    }
+}
+
 /// Behind `DELETE`.
-pub(crate) fn behind_delete(token: &Token) -> Option<State>
-    ensures { result ≡ spec.behind_delete token.now }
+fn behind_delete(alloc: Global, token: &Token) -> Step
+    ensures { IfOk result (λ next. next ≡ spec.behind_delete token.now) }
 {
     match token {
-        Token::Word(_, Word::From) => Some(State::Flat(Place::DeleteFrom)),
-        _ => None,
+        Token::Word(_, Word::From) => at(alloc, Place::Delete(DeletePlace::From)),
+        _ => Ok(None),
     }
 }
 
 /// The table's name is to come.
-pub(crate) fn delete_named(token: Token) -> Option<State>
-    ensures { result ≡ spec.on_name (spec.name_of token) p.DeleteTable }
+fn delete_named(alloc: Global, token: Token) -> Step
+    ensures { IfOk result (λ next. next ≡ spec.on_name (spec.name_of token) (λ n. p.Delete (del.Table n))) }
 {
     match name_of(token) {
-        Some(name) => Some(State::Flat(Place::DeleteTable(name))),
-        None => None,
+        Some(name) => at(alloc, Place::Delete(DeletePlace::Table(name))),
+        None => Ok(None),
     }
 }
 
 /// Behind `DELETE FROM` and the table.
-pub(crate) fn behind_delete_table(alloc: Global, table: Text, token: &Token) -> Step
+fn behind_delete_table(alloc: Global, table: Text, token: &Token) -> Step
     ensures { IfOk result (λ next. next ≡ spec.behind_delete_table table token.now) }
 {
     match token {
         Token::Word(_, Word::Where) => inside(alloc, Clause::DeleteFilter(table)),
-        _ => Ok(behind_ended(MeasuredStmt::delete(table, None), token)),
+        _ => behind_ended(alloc, MeasuredStmt::delete(table, None), token),
     }
 }

@@ -1,13 +1,14 @@
 //! The token behind an operand of level `m`, and behind a name.
 
-ghost use Rattle.std.specs.Prelude.{◌≡◌, IfOk, None};
+ghost use Rattle.std.specs.Prelude.{◌≡◌, IfOk, None, Some};
+ghost use Rattle.rq_grammar.specs.Grammar.{upper};
+ghost use Rattle.rq_grammar.specs.declared.frame.State.TheVariants as s;
 ghost use Rattle.rq_grammar.specs.Machine as spec;
 ghost use Rattle.rq_machine.specs.Marks.{mark_operator};
 
 use crate::ending::ended;
 use crate::names::Step;
 use crate::operators::{among, and, between, binary, is, not};
-use crate::upper::upper;
 use rq_grammar::{BinaryOp, Measured, Stack, State, Token, Word};
 use rq_values::Text;
 use std::alloc::Global;
@@ -107,7 +108,22 @@ pub(crate) fn named(alloc: Global, stack: Stack, is_count: bool, name: Text, tok
 {
     match token {
         Token::Dot => Ok(Some(State::Dotted(stack, name))),
-        Token::Open => Ok(Some(State::Opened(stack, is_count, upper(alloc, name)?))),
+        Token::Open => called(alloc, stack, is_count, name),
         other => done(alloc, 9, stack, Measured::name(name), other),
+    }
+}
+
+/// Behind a bare name and `(`.
+fn called(alloc: Global, stack: Stack, is_count: bool, name: Text) -> Step
+    ensures { IfOk result (λ x. x ≡ Some (s.Opened stack is_count (upper name))) }
+{
+    let capitals = name.upper(alloc);
+    drop(name);
+    match capitals {
+        Ok(capitals) => Ok(Some(State::Opened(stack, is_count, capitals))),
+        Err(error) => {
+            drop(stack);
+            Err(error)
+        }
     }
 }

@@ -1,23 +1,38 @@
 //! `DROP TABLE`, up to its end.
 
-ghost use Rattle.std.specs.Prelude.{◌≡◌};
+ghost use Rattle.std.specs.Prelude.{◌≡◌, IfOk};
 ghost use Rattle.rq_grammar.specs.Places as spec;
 ghost use Rattle.rq_grammar.specs.declared.place.Place.TheVariants as p;
+ghost use Rattle.rq_grammar.specs.declared.place.DropPlace.TheVariants as dp;
 ghost use Rattle.rq_grammar.specs.declared.stmt.Stmt.TheVariants as s;
 ghost use Rattle.rq_machine.specs.Keywords.{is_if};
 
 use crate::ended::behind_ended;
-use crate::names::name_of;
-use rq_grammar::{MeasuredStmt, Place, State, Token, Word};
+use crate::names::{Step, at, behind, name_of};
+use rq_grammar::{DropPlace, MeasuredStmt, Place, Token, Word};
 use rq_values::Text;
+use std::alloc::Global;
+
+/// The state behind the token, at a place of a `DROP`.
+#[tactic(auto, unfolding(rq_grammar::specs::Places::drop_step))]
+pub(crate) fn drop_step(alloc: Global, place: DropPlace, token: Token) -> Step
+    ensures { IfOk result (λ next. next ≡ spec.drop_step place token) }
+{
+    match place {
+        DropPlace::Begun => behind(behind_drop(alloc, &token), token),
+        DropPlace::Table => behind_drop_table(alloc, token),
+        DropPlace::If(table) => behind(behind_drop_if(alloc, table, &token), token),
+        DropPlace::IfExists => drop_named(alloc, true, token),
+    }
+}
 
 /// Behind `DROP`.
-pub(crate) fn behind_drop(token: &Token) -> Option<State>
-    ensures { result ≡ spec.behind_drop token.now }
+fn behind_drop(alloc: Global, token: &Token) -> Step
+    ensures { IfOk result (λ next. next ≡ spec.behind_drop token.now) }
 {
     match token {
-        Token::Word(_, Word::Table) => Some(State::Flat(Place::DropTable)),
-        _ => None,
+        Token::Word(_, Word::Table) => at(alloc, Place::Drop(DropPlace::Table)),
+        _ => Ok(None),
     }
 }
 
@@ -30,42 +45,48 @@ fn is_if(token: &Token) -> bool
 
 /// Behind `DROP TABLE`.
 #[tactic(auto, using(crate::proofs::Keywords::drop_then, crate::proofs::Keywords::drop_else))]
-pub(crate) fn behind_drop_table(token: Token) -> Option<State>
-    ensures { result ≡ spec.behind_drop_table token }
+fn behind_drop_table(alloc: Global, token: Token) -> Step
+    ensures { IfOk result (λ next. next ≡ spec.behind_drop_table token) }
 {
     if is_if(&token) {
-        drop_if(token)
+        drop_if(alloc, token)
     } else {
-        drop_named(false, token)
+        drop_named(alloc, false, token)
     }
 }
 
 /// The name, or the word IF, is to come.
-fn drop_if(token: Token) -> Option<State>
-    ensures { result ≡ spec.on_name (spec.name_of token) p.DropIf }
+fn drop_if(alloc: Global, token: Token) -> Step
+    ensures { IfOk result (λ next. next ≡ spec.on_name (spec.name_of token) (λ n. p.Drop (dp.If n))) }
 {
     match name_of(token) {
-        Some(name) => Some(State::Flat(Place::DropIf(name))),
-        None => None,
+        Some(name) => at(alloc, Place::Drop(DropPlace::If(name))),
+        None => Ok(None),
     }
 }
 
 /// The table's name is to come.
-pub(crate) fn drop_named(if_exists: bool, token: Token) -> Option<State>
-    ensures { result ≡ spec.on_name (spec.name_of token) (λ n. p.Ended (s.Drop if_exists n)) }
+fn drop_named(alloc: Global, if_exists: bool, token: Token) -> Step
+    ensures { IfOk result (λ next. next ≡ spec.on_name (spec.name_of token) (λ n. p.Ended (s.Drop if_exists n))) }
 {
     match name_of(token) {
-        Some(table) => Some(State::Flat(Place::Ended(MeasuredStmt::drop_table(if_exists, table)))),
-        None => None,
+        Some(table) => at(
+            alloc,
+            Place::Ended(MeasuredStmt::drop_table(if_exists, table)),
+        ),
+        None => Ok(None),
     }
 }
 
 /// Behind `DROP TABLE IF`.
-pub(crate) fn behind_drop_if(table: Text, token: &Token) -> Option<State>
-    ensures { result ≡ spec.behind_drop_if table token.now }
+fn behind_drop_if(alloc: Global, table: Text, token: &Token) -> Step
+    ensures { IfOk result (λ next. next ≡ spec.behind_drop_if table token.now) }
 {
     match token {
-        Token::Word(_, Word::Exists) => Some(State::Flat(Place::DropIfExists)),
-        _ => behind_ended(MeasuredStmt::drop_table(false, table), token),
+        Token::Word(_, Word::Exists) => {
+            drop(table);
+            at(alloc, Place::Drop(DropPlace::IfExists))
+        }
+        _ => behind_ended(alloc, MeasuredStmt::drop_table(false, table), token),
     }
 }

@@ -1,19 +1,21 @@
 //! Behind a whole statement.
 
-ghost use Rattle.std.specs.Prelude.{◌≡◌};
+ghost use Rattle.std.specs.Prelude.{◌≡◌, IfOk};
 ghost use Rattle.rq_grammar.specs.Places as spec;
 
-use rq_grammar::{MeasuredStmt, Place, State, Token};
+use crate::names::{Step, at};
+use rq_grammar::{MeasuredStmt, Place, Token};
+use std::alloc::Global;
 
 /// Behind a whole statement.
-pub(crate) fn behind_ended(stmt: MeasuredStmt, token: &Token) -> Option<State>
-    ensures { result ≡ spec.behind_ended stmt token.now }
+pub(crate) fn behind_ended(alloc: Global, stmt: MeasuredStmt, token: &Token) -> Step
+    ensures { IfOk result (λ next. next ≡ spec.behind_ended stmt token.now) }
 {
     match token {
-        Token::Semi => Some(State::Flat(Place::Ended(stmt))),
+        Token::Semi => at(alloc, Place::Ended(stmt)),
         _ => {
             drop(stmt);
-            None
+            Ok(None)
         }
     }
 }

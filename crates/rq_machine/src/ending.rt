@@ -6,7 +6,7 @@ ghost use Rattle.rq_grammar.specs.Stack as k;
 
 use crate::clauses::{clause_on, landed_end};
 use crate::names::Step;
-use crate::reduce::{on, opened};
+use crate::reduce::{going_on, opened};
 use rq_grammar::{Frame, Measured, MeasuredList, Stack, State, Stmt, Token};
 use rq_values::{NoMemory, Text};
 use std::alloc::Global;
@@ -30,13 +30,25 @@ fn args_on(name: Text, mut args: MeasuredList, stack: Stack, expr: Measured, tok
 {
     match token {
         Token::Comma => {
-            args.push(expr)?;
-            Ok(Some(on(stack, Frame::Args { name, args })?))
+            match args.push(expr) {
+                Ok(()) => going_on(stack, Frame::Args { name, args }),
+                Err(error) => {
+                    drop(name);
+                    drop(args);
+                    drop(stack);
+                    Err(error)
+                }
+            }
         }
-        Token::Close => {
-            args.push(expr)?;
-            Ok(Some(State::Done(stack, 9, Measured::call(name, args))))
-        }
+        Token::Close => match args.push(expr) {
+            Ok(()) => Ok(Some(State::Done(stack, 9, Measured::call(name, args)))),
+            Err(error) => {
+                drop(name);
+                drop(args);
+                drop(stack);
+                Err(error)
+            }
+        },
         other => {
             drop(name);
             drop(args);
@@ -60,22 +72,37 @@ fn among_on(
     ensures { IfOk result (λ x. x ≡ spec.among_on negated left list stack expr token) }
 {
     match token {
-        Token::Comma => {
-            list.push(expr)?;
-            Ok(Some(on(
+        Token::Comma => match list.push(expr) {
+            Ok(()) => going_on(
                 stack,
                 Frame::Among {
                     negated,
                     left,
                     list,
                 },
-            )?))
-        }
-        Token::Close => {
-            list.push(expr)?;
-            let expr = Measured::in_list(alloc, negated, left, list)?;
-            Ok(Some(State::Done(stack, 4, expr)))
-        }
+            ),
+            Err(error) => {
+                drop(left);
+                drop(list);
+                drop(stack);
+                Err(error)
+            }
+        },
+        Token::Close => match list.push(expr) {
+            Ok(()) => match Measured::in_list(alloc, negated, left, list) {
+                Ok(expr) => Ok(Some(State::Done(stack, 4, expr))),
+                Err(error) => {
+                    drop(stack);
+                    Err(error)
+                }
+            },
+            Err(error) => {
+                drop(left);
+                drop(list);
+                drop(stack);
+                Err(error)
+            }
+        },
         other => {
             drop(left);
             drop(list);
@@ -101,7 +128,10 @@ fn ended_on(alloc: Global, token: Token, frame: Option<Frame>, stack: Stack, exp
                 list,
             },
         ) => among_on(alloc, negated, left, list, stack, expr, token),
-        Some(Frame::Clause(clause)) => clause_on(alloc, clause, expr, token),
+        Some(Frame::Clause(clause)) => {
+            drop(stack);
+            clause_on(alloc, clause.into_inner(), expr, token)
+        }
         other => {
             drop(other);
             drop(stack);
@@ -117,8 +147,13 @@ fn ended_on(alloc: Global, token: Token, frame: Option<Frame>, stack: Stack, exp
 pub(crate) fn ended(alloc: Global, stack: Stack, expr: Measured, token: Token) -> Step
     ensures { IfOk result (λ x. x ≡ k.split (spec.ended_at token) (k.reduce 0 stack expr)) }
 {
-    let (frame, stack, expr) = opened(alloc, 0, stack, expr)?;
-    ended_on(alloc, token, frame, stack, expr)
+    match opened(alloc, 0, stack, expr) {
+        Ok((frame, stack, expr)) => ended_on(alloc, token, frame, stack, expr),
+        Err(error) => {
+            drop(token);
+            Err(error)
+        }
+    }
 }
 
 #[tactic(auto, unfolding(rq_grammar::specs::Machine::end_on))]
@@ -126,7 +161,7 @@ fn end_on(frame: Option<Frame>, expr: Measured) -> Result<Option<Stmt>, NoMemory
     ensures { IfOk result (λ x. (st : k.Stack) → x ≡ spec.end_on frame st expr) }
 {
     match frame {
-        Some(Frame::Clause(clause)) => landed_end(clause, expr),
+        Some(Frame::Clause(clause)) => landed_end(clause.into_inner(), expr),
         other => {
             drop(other);
             drop(expr);
@@ -140,7 +175,11 @@ fn end_on(frame: Option<Frame>, expr: Measured) -> Result<Option<Stmt>, NoMemory
 pub(crate) fn end(alloc: Global, stack: Stack, expr: Measured) -> Result<Option<Stmt>, NoMemory>
     ensures { IfOk result (λ x. x ≡ k.split spec.end_at (k.reduce 0 stack expr)) }
 {
-    let (frame, stack, expr) = opened(alloc, 0, stack, expr)?;
-    drop(stack);
-    end_on(frame, expr)
+    match opened(alloc, 0, stack, expr) {
+        Ok((frame, stack, expr)) => {
+            drop(stack);
+            end_on(frame, expr)
+        }
+        Err(error) => Err(error),
+    }
 }

@@ -3,44 +3,73 @@
 ghost use Rattle.std.specs.Prelude.{◌≡◌, ◌++◌, ◌∷◌, [], IfOk};
 ghost use Rattle.rq_grammar.specs.Places as spec;
 ghost use Rattle.rq_grammar.specs.declared.place.Place.TheVariants as p;
+ghost use Rattle.rq_grammar.specs.declared.place.InsertPlace.TheVariants as ip;
 
 use crate::clauses::inside;
 use crate::ended::behind_ended;
-use crate::names::{Step, name_of};
+use crate::names::{Step, at, behind, name_of};
 use rq_grammar::{
-    Clause, MeasuredList, MeasuredQuery, MeasuredRows, MeasuredStmt, Place, State, Target, Token,
-    Word,
+    Clause, InsertPlace, MeasuredList, MeasuredQuery, MeasuredRows, MeasuredStmt, Place,
+    SelectPlace, Target, Token, Word,
 };
 use rq_values::{NoMemory, Text};
 use sqlite_items::Items;
 use std::alloc::Global;
 
+/// The state behind the token, at a place of an `INSERT`.
+#[tactic(auto, unfolding(rq_grammar::specs::Places::insert_step))]
+pub(crate) fn insert_step(alloc: Global, place: InsertPlace, token: Token) -> Step
+    ensures { IfOk result (λ next. next ≡ spec.insert_step place token) }
+{
+    match place {
+        InsertPlace::Begun => behind(behind_insert(alloc, &token), token),
+        InsertPlace::Into => table_named(alloc, token),
+        InsertPlace::Table(table) => behind(behind_table(alloc, table, &token), token),
+        InsertPlace::NameStart(table, names) => column_listed(alloc, table, names, token),
+        InsertPlace::Names(table, names) => {
+            behind(behind_names(alloc, table, names, &token), token)
+        }
+        InsertPlace::Columns(target) => behind(behind_columns(alloc, target, &token), token),
+        InsertPlace::Values(target, rows) => {
+            behind(behind_values(alloc, target, rows, &token), token)
+        }
+        InsertPlace::Rows(target, rows) => behind(behind_rows(alloc, target, rows, &token), token),
+    }
+}
+
+/// At a place of an `INSERT`.
+fn insert_at(alloc: Global, place: InsertPlace) -> Step
+    ensures { IfOk result (λ next. next ≡ spec.flat (p.Insert place)) }
+{
+    at(alloc, Place::Insert(place))
+}
+
 /// Behind `INSERT`.
-pub(crate) fn behind_insert(token: &Token) -> Option<State>
-    ensures { result ≡ spec.behind_insert token.now }
+fn behind_insert(alloc: Global, token: &Token) -> Step
+    ensures { IfOk result (λ next. next ≡ spec.behind_insert token.now) }
 {
     match token {
-        Token::Word(_, Word::Into) => Some(State::Flat(Place::Into)),
-        _ => None,
+        Token::Word(_, Word::Into) => insert_at(alloc, InsertPlace::Into),
+        _ => Ok(None),
     }
 }
 
 /// The table's name is to come.
-pub(crate) fn table_named(token: Token) -> Option<State>
-    ensures { result ≡ spec.on_name (spec.name_of token) p.Table }
+fn table_named(alloc: Global, token: Token) -> Step
+    ensures { IfOk result (λ next. next ≡ spec.on_name (spec.name_of token) (λ n. p.Insert (ip.Table n))) }
 {
     match name_of(token) {
-        Some(name) => Some(State::Flat(Place::Table(name))),
-        None => None,
+        Some(name) => insert_at(alloc, InsertPlace::Table(name)),
+        None => Ok(None),
     }
 }
 
 /// Behind `INSERT INTO` and the table.
-pub(crate) fn behind_table(alloc: Global, table: Text, token: &Token) -> Option<State>
-    ensures { result ≡ spec.behind_table table token.now }
+fn behind_table(alloc: Global, table: Text, token: &Token) -> Step
+    ensures { IfOk result (λ next. next ≡ spec.behind_table table token.now) }
 {
     match token {
-        Token::Open => Some(State::Flat(Place::NameStart(table, Items::new(alloc)))),
+        Token::Open => insert_at(alloc, InsertPlace::NameStart(table, Items::new(alloc))),
         _ => behind_columns(
             alloc,
             Target {
@@ -53,20 +82,20 @@ pub(crate) fn behind_table(alloc: Global, table: Text, token: &Token) -> Option<
 }
 
 /// Behind the table and its columns, if there are some.
-pub(crate) fn behind_columns(alloc: Global, target: Target, token: &Token) -> Option<State>
-    ensures { result ≡ spec.behind_columns target token.now }
+fn behind_columns(alloc: Global, target: Target, token: &Token) -> Step
+    ensures { IfOk result (λ next. next ≡ spec.behind_columns target token.now) }
 {
     match token {
         Token::Word(_, Word::Values) => {
-            Some(State::Flat(Place::Values(target, MeasuredRows::new(alloc))))
+            insert_at(alloc, InsertPlace::Values(target, MeasuredRows::new(alloc)))
         }
-        Token::Word(_, Word::Select) => Some(State::Flat(Place::Result(MeasuredQuery::new(
-            alloc,
-            Some(target),
-        )))),
+        Token::Word(_, Word::Select) => {
+            let query = MeasuredQuery::new(alloc, Some(target));
+            at(alloc, Place::Select(SelectPlace::Result(query)))
+        }
         _ => {
             drop(target);
-            None
+            Ok(None)
         }
     }
 }
@@ -75,17 +104,29 @@ pub(crate) fn behind_columns(alloc: Global, target: Target, token: &Token) -> Op
 fn with_name(mut names: Items<Text>, name: Text) -> Result<Items<Text>, NoMemory>
     ensures { IfOk result (λ ns. ns ≡ names ++ name ∷ []) }
 {
-    names.push(name)?;
-    Ok(names)
+    match names.push(name) {
+        Ok(()) => Ok(names),
+        Err(_) => {
+            drop(names);
+            Err(NoMemory)
+        }
+    }
 }
 
 /// A column's name is to come.
-pub(crate) fn column_listed(table: Text, names: Items<Text>, token: Token) -> Step
-    ensures { IfOk result (λ next. next ≡ spec.on_name (spec.name_of token) (λ m. p.Names table (names ++ m ∷ []))) }
+fn column_listed(alloc: Global, table: Text, names: Items<Text>, token: Token) -> Step
+    ensures { IfOk result (λ next. next ≡ spec.on_name (spec.name_of token) (λ m. p.Insert (ip.Names table (names ++ m ∷ [])))) }
 {
     match name_of(token) {
-        Some(name) => Ok(Some(State::Flat(Place::Names(table, with_name(names, name)?)))),
+        Some(name) => match with_name(names, name) {
+            Ok(names) => insert_at(alloc, InsertPlace::Names(table, names)),
+            Err(error) => {
+                drop(table);
+                Err(error)
+            }
+        },
         None => {
+            drop(table);
             drop(names);
             Ok(None)
         }
@@ -93,40 +134,32 @@ pub(crate) fn column_listed(table: Text, names: Items<Text>, token: Token) -> St
 }
 
 /// Behind a column's name.
-pub(crate) fn behind_names(table: Text, names: Items<Text>, token: &Token) -> Option<State>
-    ensures { result ≡ spec.behind_names table names token.now }
+fn behind_names(alloc: Global, table: Text, names: Items<Text>, token: &Token) -> Step
+    ensures { IfOk result (λ next. next ≡ spec.behind_names table names token.now) }
 {
     match token {
-        Token::Comma => Some(State::Flat(Place::NameStart(table, names))),
-        Token::Close => Some(State::Flat(Place::Columns(Target {
-            table,
-            columns: Some(names),
-        }))),
+        Token::Comma => insert_at(alloc, InsertPlace::NameStart(table, names)),
+        Token::Close => {
+            let columns = Some(names);
+            insert_at(alloc, InsertPlace::Columns(Target { table, columns }))
+        }
         _ => {
+            drop(table);
             drop(names);
-            None
+            Ok(None)
         }
     }
 }
 
 /// A row is to come.
-pub(crate) fn behind_values(
-    alloc: Global,
-    target: Target,
-    rows: MeasuredRows,
-    token: &Token,
-) -> Step
+fn behind_values(alloc: Global, target: Target, rows: MeasuredRows, token: &Token) -> Step
     ensures { IfOk result (λ next. next ≡ spec.behind_values target rows token.now) }
 {
     match token {
-        Token::Open => inside(
-            alloc,
-            Clause::Row {
-                target,
-                rows,
-                row: MeasuredList::new(alloc),
-            },
-        ),
+        Token::Open => {
+            let row = MeasuredList::new(alloc);
+            inside(alloc, Clause::Row { target, rows, row })
+        }
         _ => {
             drop(target);
             drop(rows);
@@ -136,11 +169,11 @@ pub(crate) fn behind_values(
 }
 
 /// Behind a row.
-pub(crate) fn behind_rows(target: Target, rows: MeasuredRows, token: &Token) -> Option<State>
-    ensures { result ≡ spec.behind_rows target rows token.now }
+fn behind_rows(alloc: Global, target: Target, rows: MeasuredRows, token: &Token) -> Step
+    ensures { IfOk result (λ next. next ≡ spec.behind_rows target rows token.now) }
 {
     match token {
-        Token::Comma => Some(State::Flat(Place::Values(target, rows))),
-        _ => behind_ended(MeasuredStmt::insert(target, rows), token),
+        Token::Comma => insert_at(alloc, InsertPlace::Values(target, rows)),
+        _ => behind_ended(alloc, MeasuredStmt::insert(target, rows), token),
     }
 }

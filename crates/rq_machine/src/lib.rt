@@ -11,6 +11,7 @@ mod drop_table;
 mod ended;
 mod ending;
 mod insert;
+mod laws;
 mod limits;
 mod modes;
 mod names;
@@ -23,9 +24,9 @@ mod select;
 mod step;
 mod stop;
 mod update;
-mod upper;
 mod within;
 
+pub use laws::each_token_has_one_answer;
 pub use limits::open_behind;
 pub use stop::Stop;
 pub use within::{advance, finish};

@@ -19,7 +19,7 @@ fn weight(state: &State) -> u8
     ensures { result ≡ min 101 (weight state.now) }
 {
     match state {
-        State::Flat(place) => place_weight(place),
+        State::Flat(place) => place_weight(place.get()),
         State::Operand(stack) => stack.least(1),
         State::Signed(stack) => stack.least(1),
         State::Quoted(stack, _) => stack.least(1),
@@ -40,7 +40,7 @@ fn due(state: &State) -> u8
     ensures { result ≡ due state.now }
 {
     match state {
-        State::Flat(place) => place_due(place),
+        State::Flat(place) => place_due(place.get()),
         State::In(_, _, _) => 1,
         _ => 0,
     }

@@ -6,7 +6,7 @@ ghost use Rattle.rq_grammar.specs.declared.token.Token.TheVariants as t;
 
 use crate::names::Step;
 use crate::operand::pushed;
-use crate::reduce::on;
+use crate::reduce::going_on;
 use rq_grammar::{BinaryOp, Frame, Measured, MeasuredList, Stack, State, Token, Word};
 use rq_values::Text;
 use std::alloc::Global;
@@ -87,25 +87,26 @@ pub(crate) fn denied(stack: Stack, left: Measured, token: Token) -> Step
     }
 }
 
-fn denied_word(stack: Stack, left: Measured, _name: Text, word: Word) -> Step
-    ensures { IfOk result (λ x. x ≡ spec.denied stack left (t.Word _name word)) }
+fn denied_word(stack: Stack, left: Measured, name: Text, word: Word) -> Step
+    ensures { IfOk result (λ x. x ≡ spec.denied stack left (t.Word name word)) }
 {
+    drop(name);
     match word {
-        Word::Like => Ok(Some(on(
+        Word::Like => going_on(
             stack,
             Frame::Binary {
                 op: BinaryOp::NotLike,
                 left,
             },
-        )?)),
+        ),
         Word::In => Ok(Some(State::In(stack, true, left))),
-        Word::Between => Ok(Some(on(
+        Word::Between => going_on(
             stack,
             Frame::Low {
                 negated: true,
                 left,
             },
-        )?)),
+        ),
         _ => {
             drop(stack);
             drop(left);
@@ -119,13 +120,16 @@ pub(crate) fn is(stack: Stack, left: Measured, token: Token) -> Step
     ensures { IfOk result (λ x. x ≡ spec.is stack left token) }
 {
     match token {
-        Token::Word(_name, Word::Not) => Ok(Some(on(
-            stack,
-            Frame::Binary {
-                op: BinaryOp::IsNot,
-                left,
-            },
-        )?)),
+        Token::Word(name, Word::Not) => {
+            drop(name);
+            going_on(
+                stack,
+                Frame::Binary {
+                    op: BinaryOp::IsNot,
+                    left,
+                },
+            )
+        }
         other => pushed(
             stack,
             Frame::Binary {
@@ -165,8 +169,13 @@ pub(crate) fn listed(
     match token {
         Token::Close => {
             let list = MeasuredList::new(alloc);
-            let expr = Measured::in_list(alloc, negated, left, list)?;
-            Ok(Some(State::Done(stack, 4, expr)))
+            match Measured::in_list(alloc, negated, left, list) {
+                Ok(expr) => Ok(Some(State::Done(stack, 4, expr))),
+                Err(error) => {
+                    drop(stack);
+                    Err(error)
+                }
+            }
         }
         other => pushed(
             stack,

@@ -1,19 +1,47 @@
-//! Names, and the place behind one.
+//! Steps, and the name that a token is.
 
-ghost use Rattle.std.specs.Prelude.{◌≡◌};
+ghost use Rattle.std.specs.Prelude.{◌≡◌, IfOk};
 ghost use Rattle.rq_grammar.specs.Places as spec;
 
-use rq_grammar::{State, Token};
+use rq_grammar::{Place, State, Token};
 use rq_values::{NoMemory, Text};
+use sqlite_items::Boxed;
+use std::alloc::Global;
 
+/// The next state, None where no statement goes on.
 pub(crate) type Step = Result<Option<State>, NoMemory>;
+
+/// Between expressions, at the place.
+pub(crate) fn at(alloc: Global, place: Place) -> Step
+    ensures { IfOk result (λ next. next ≡ spec.flat place) }
+{
+    match Boxed::new(alloc, place) {
+        Ok(place) => Ok(Some(State::Flat(place))),
+        Err(_) => Err(NoMemory),
+    }
+}
+
+/// The step, and the token is let go.
+pub(crate) fn behind(next: Step, token: Token) -> Step
+    ensures { result ≡ next }
+{
+    drop(token);
+    next
+}
 
 /// The name that the token is.
 pub(crate) fn name_of(token: Token) -> Option<Text>
     ensures { result ≡ spec.name_of token }
 {
     match token {
-        Token::Word(name, word) => { if word.is_reserved() { None } else { Some(name) } }
+        Token::Word(name, word) => {
+            if word.is_reserved() {
+                drop(name);
+                None
+            } else {
+                Some(name)
+            }
+        }
         Token::Quoted(name) => Some(name),
         other => {
             drop(other);

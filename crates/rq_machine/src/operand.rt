@@ -1,15 +1,15 @@
 //! The token where an operand is to come.
 
-ghost use Rattle.std.specs.Prelude.{◌≡◌, ◌∷◌, IfOk, false};
+ghost use Rattle.std.specs.Prelude.{◌≡◌, ◌∷◌, IfOk, false, Some};
 ghost use Rattle.rq_grammar.specs.Stack as spec;
 ghost use Rattle.rq_grammar.specs.Load.{is_clause};
 ghost use Rattle.rq_grammar.specs.declared.token.Token.TheVariants as t;
 ghost use Rattle.rq_grammar.specs.declared.frame.State.TheVariants as s;
 
 use crate::names::Step;
-use crate::reduce::on;
+use crate::reduce::going_on;
 use rq_grammar::{Frame, Measured, Stack, State, Token, Word};
-use rq_values::{NoMemory, Text, Value};
+use rq_values::{Text, Value};
 
 /// The token where an operand is to come.
 pub(crate) fn operand(stack: Stack, token: Token) -> Step
@@ -22,9 +22,18 @@ pub(crate) fn operand(stack: Stack, token: Token) -> Step
         Token::Blob(bytes) => Ok(Some(leaf(stack, Measured::literal(Value::Blob(bytes))))),
         Token::Numeral(n) => Ok(numeral(stack, n)),
         Token::Parameter(name) => Ok(Some(leaf(stack, Measured::param(name)))),
-        Token::Open => Ok(Some(on(stack, Frame::Paren)?)),
-        Token::Plus => Ok(Some(State::Operand(with_plus(stack)?))),
-        Token::Minus => Ok(Some(State::Signed(stack))),
+        Token::Open => {
+            drop(token);
+            going_on(stack, Frame::Paren)
+        }
+        Token::Plus => {
+            drop(token);
+            with_plus(stack)
+        }
+        Token::Minus => {
+            drop(token);
+            Ok(Some(State::Signed(stack)))
+        }
         other => {
             drop(stack);
             drop(other);
@@ -44,13 +53,26 @@ fn operand_word(stack: Stack, name: Text, word: Word) -> Step
     ensures { IfOk result (λ x. x ≡ spec.operand_word stack name word) }
 {
     match word {
-        Word::Null => Ok(Some(leaf(stack, Measured::literal(Value::Null)))),
-        Word::CurrentTimestamp => Ok(Some(leaf(stack, Measured::current_timestamp()))),
-        Word::CurrentDate => Ok(Some(leaf(stack, Measured::current_date()))),
-        Word::CurrentTime => Ok(Some(leaf(stack, Measured::current_time()))),
+        Word::Null => {
+            drop(name);
+            Ok(Some(leaf(stack, Measured::literal(Value::Null))))
+        }
+        Word::CurrentTimestamp => {
+            drop(name);
+            Ok(Some(leaf(stack, Measured::current_timestamp())))
+        }
+        Word::CurrentDate => {
+            drop(name);
+            Ok(Some(leaf(stack, Measured::current_date())))
+        }
+        Word::CurrentTime => {
+            drop(name);
+            Ok(Some(leaf(stack, Measured::current_time())))
+        }
         Word::Not => {
+            drop(name);
             if stack.room() <= 3 {
-                Ok(Some(on(stack, Frame::Not)?))
+                going_on(stack, Frame::Not)
             } else {
                 drop(stack);
                 Ok(None)
@@ -59,6 +81,7 @@ fn operand_word(stack: Stack, name: Text, word: Word) -> Step
         Word::Count => Ok(Some(State::Named(stack, true, name))),
         _ => {
             if word.is_reserved() {
+                drop(name);
                 drop(stack);
                 Ok(None)
             } else {
@@ -80,14 +103,15 @@ fn numeral(stack: Stack, n: u64) -> Option<State>
     }
 }
 
-/// One more front `+`.
-fn with_plus(mut stack: Stack) -> Result<Stack, NoMemory>
-    ensures { IfOk result (λ s. s ≡ spec.with_plus stack) }
+/// An operand is to come, behind one more front `+`.
+fn with_plus(stack: Stack) -> Step
+    ensures { IfOk result (λ x. x ≡ Some (s.Operand (spec.with_plus stack))) }
 {
-    if !stack.is_behind_plus() {
-        stack.push(Frame::Plus)?;
+    if stack.is_behind_plus() {
+        Ok(Some(State::Operand(stack)))
+    } else {
+        going_on(stack, Frame::Plus)
     }
-    Ok(stack)
 }
 
 /// The token directly behind a front `-`.
@@ -119,6 +143,12 @@ pub(crate) fn pushed(mut stack: Stack, frame: Frame, token: Token) -> Step
     requires { is_clause frame ≡ false }
     ensures { IfOk result (λ x. x ≡ spec.operand (frame ∷ stack) token) }
 {
-    stack.push(frame)?;
-    operand(stack, token)
+    match stack.push(frame) {
+        Ok(()) => operand(stack, token),
+        Err(error) => {
+            drop(stack);
+            drop(token);
+            Err(error)
+        }
+    }
 }

@@ -7,57 +7,62 @@ ghost use Rattle.rq_grammar.specs.declared.frame.Frame.TheVariants as f;
 ghost use Rattle.rq_grammar.specs.declared.frame.State.TheVariants as s;
 
 use crate::names::Step;
-use crate::reduce::{on, reduce, tied};
+use crate::reduce::{going_on, reduce, tied};
 use rq_grammar::{BinaryOp, Frame, Measured, Stack, State};
 use std::alloc::Global;
 
 pub(crate) fn binary(alloc: Global, op: BinaryOp, m: u8, stack: Stack, expr: Measured) -> Step
     ensures { IfOk result (λ x. x ≡ spec.binary op m stack expr) }
 {
-    match tied(alloc, op.level(), m, stack, expr)? {
-        None => Ok(None),
-        Some((stack, left)) => Ok(Some(on(stack, Frame::Binary { op, left })?)),
+    match tied(alloc, op.level(), m, stack, expr) {
+        Ok(None) => Ok(None),
+        Err(error) => Err(error),
+        Ok(Some((stack, left))) => going_on(stack, Frame::Binary { op, left }),
     }
 }
 
 pub(crate) fn is(alloc: Global, m: u8, stack: Stack, expr: Measured) -> Step
     ensures { IfOk result (λ x. x ≡ spec.grouped m stack expr s.Is) }
 {
-    match tied(alloc, 4, m, stack, expr)? {
-        None => Ok(None),
-        Some((stack, left)) => Ok(Some(State::Is(stack, left))),
+    match tied(alloc, 4, m, stack, expr) {
+        Ok(None) => Ok(None),
+        Err(error) => Err(error),
+        Ok(Some((stack, left))) => Ok(Some(State::Is(stack, left))),
     }
 }
 
 pub(crate) fn not(alloc: Global, m: u8, stack: Stack, expr: Measured) -> Step
     ensures { IfOk result (λ x. x ≡ spec.grouped m stack expr s.Denied) }
 {
-    match tied(alloc, 4, m, stack, expr)? {
-        None => Ok(None),
-        Some((stack, left)) => Ok(Some(State::Denied(stack, left))),
+    match tied(alloc, 4, m, stack, expr) {
+        Ok(None) => Ok(None),
+        Err(error) => Err(error),
+        Ok(Some((stack, left))) => Ok(Some(State::Denied(stack, left))),
     }
 }
 
 pub(crate) fn among(alloc: Global, m: u8, stack: Stack, expr: Measured) -> Step
     ensures { IfOk result (λ x. x ≡ spec.grouped m stack expr (λ st a. s.In st false a)) }
 {
-    match tied(alloc, 4, m, stack, expr)? {
-        None => Ok(None),
-        Some((stack, left)) => Ok(Some(State::In(stack, false, left))),
+    match tied(alloc, 4, m, stack, expr) {
+        Ok(None) => Ok(None),
+        Err(error) => Err(error),
+        Ok(Some((stack, left))) => Ok(Some(State::In(stack, false, left))),
     }
 }
 
 pub(crate) fn between(alloc: Global, m: u8, stack: Stack, expr: Measured) -> Step
     ensures { IfOk result (λ x. x ≡ spec.grouped m stack expr (λ st a. s.Operand (f.Low false a ∷ st))) }
 {
-    match tied(alloc, 4, m, stack, expr)? {
-        None => Ok(None),
-        Some((stack, left)) => {
+    match tied(alloc, 4, m, stack, expr) {
+        Ok(None) => Ok(None),
+        Err(error) => Err(error),
+        Ok(Some((stack, left))) => {
             let low = Frame::Low {
                 negated: false,
                 left,
             };
-            Ok(Some(on(stack, low)?))
+            going_on(stack, low)
         }
     }
 }
@@ -66,22 +71,24 @@ pub(crate) fn between(alloc: Global, m: u8, stack: Stack, expr: Measured) -> Ste
 pub(crate) fn and(alloc: Global, m: u8, stack: Stack, expr: Measured) -> Step
     ensures { IfOk result (λ x. x ≡ spec.split (spec.and_at m) (spec.reduce 2 stack expr)) }
 {
-    let (stack, expr) = reduce(alloc, stack, expr, 2)?;
-    and_at(m, stack, expr)
+    match reduce(alloc, stack, expr, 2) {
+        Ok((stack, expr)) => and_at(m, stack, expr),
+        Err(error) => Err(error),
+    }
 }
 
 fn and_at(m: u8, mut stack: Stack, expr: Measured) -> Step
     ensures { IfOk result (λ x. x ≡ spec.and_at m stack expr) }
 {
     match stack.pop_low() {
-        Some((negated, left)) => Ok(Some(on(
+        Some((negated, left)) => going_on(
             stack,
             Frame::High {
                 negated,
                 left,
                 low: expr,
             },
-        )?)),
+        ),
         None => plain_and(m, stack, expr),
     }
 }
@@ -95,7 +102,7 @@ fn plain_and(m: u8, stack: Stack, expr: Measured) -> Step
             op: BinaryOp::And,
             left: expr,
         };
-        Ok(Some(on(stack, frame)?))
+        going_on(stack, frame)
     } else {
         drop(stack);
         drop(expr);

@@ -3,8 +3,9 @@
 ghost use Rattle.std.specs.Prelude.{◌≡◌, min};
 ghost use Rattle.rq_grammar.specs.Load.{clause_least};
 ghost use Rattle.rq_grammar.specs.Weight.{place_weight, place_due};
+ghost use Rattle.rq_grammar.specs.declared.place.Place.TheVariants as p;
 
-use rq_grammar::{Clause, Place, Stage};
+use rq_grammar::{Clause, CreatePlace, InsertPlace, Place, SelectPlace, Stage, UpdatePlace};
 
 /// The depth that the clause has before its expression.
 pub(crate) fn clause_floor(clause: &Clause) -> u8
@@ -20,20 +21,38 @@ pub(crate) fn clause_floor(clause: &Clause) -> u8
     }
 }
 
+/// The same of an UPDATE.
+fn update_weight(place: &UpdatePlace) -> u8
+    ensures { result ≡ min 101 (place_weight (p.Update place.now)) }
+{
+    match place {
+        UpdatePlace::Begun | UpdatePlace::Table(_) => 1,
+        UpdatePlace::SetStart(_, sets) | UpdatePlace::SetName(_, sets, _) => sets.levels().max(1),
+        UpdatePlace::Sets(_, sets) => sets.levels(),
+    }
+}
+
+/// The same of a select.
+fn select_weight(place: &SelectPlace) -> u8
+    ensures { result ≡ min 101 (place_weight (p.Select place.now)) }
+{
+    match place {
+        SelectPlace::Result(query) | SelectPlace::From(query) => query.levels(Stage::Results),
+        SelectPlace::Alias(query, expr) => query.levels(Stage::Results).max(expr.levels()),
+        SelectPlace::Tail(stage, query) => query.levels(*stage),
+        SelectPlace::Order(query) => query.levels(Stage::Filtered).max(1),
+    }
+}
+
 /// The least depth of a statement that goes on from the place.
 pub(crate) fn place_weight(place: &Place) -> u8
     ensures { result ≡ min 101 (place_weight place.now) }
 {
     match place {
-        Place::Values(_, rows) => rows.levels().max(1),
-        Place::Rows(_, rows) => rows.levels(),
-        Place::Update | Place::UpdateTable(_) => 1,
-        Place::SetStart(_, sets) | Place::SetName(_, sets, _) => sets.levels().max(1),
-        Place::Sets(_, sets) => sets.levels(),
-        Place::Result(query) | Place::From(query) => query.levels(Stage::Results),
-        Place::Alias(query, expr) => query.levels(Stage::Results).max(expr.levels()),
-        Place::Tail(stage, query) => query.levels(*stage),
-        Place::Order(query) => query.levels(Stage::Filtered).max(1),
+        Place::Insert(InsertPlace::Values(_, rows)) => rows.levels().max(1),
+        Place::Insert(InsertPlace::Rows(_, rows)) => rows.levels(),
+        Place::Update(place) => update_weight(place),
+        Place::Select(place) => select_weight(place),
         Place::Ended(stmt) => stmt.levels(),
         _ => 0,
     }
@@ -44,13 +63,15 @@ pub(crate) fn place_due(place: &Place) -> u8
     ensures { result ≡ place_due place.now }
 {
     match place {
-        Place::Create
-        | Place::CreateTable
-        | Place::CreateIf(_)
-        | Place::CreateIfNot
-        | Place::CreateIfNotExists
-        | Place::CreateNamed(..)
-        | Place::Values(..) => 1,
+        Place::Create(
+            CreatePlace::Begun
+            | CreatePlace::Table
+            | CreatePlace::If(_)
+            | CreatePlace::IfNot
+            | CreatePlace::IfNotExists
+            | CreatePlace::Named(..),
+        )
+        | Place::Insert(InsertPlace::Values(..)) => 1,
         _ => 0,
     }
 }

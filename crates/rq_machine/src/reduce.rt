@@ -1,11 +1,12 @@
 //! Ending what is open before a token.
 
-ghost use Rattle.std.specs.Prelude.{◌≡◌, ◌∷◌, IfOk, false};
+ghost use Rattle.std.specs.Prelude.{◌≡◌, ◌∷◌, IfOk, false, Some};
 ghost use Rattle.rq_grammar.specs.Stack as spec;
 ghost use Rattle.rq_grammar.specs.Load.{is_clause};
 ghost use Rattle.rq_grammar.specs.declared.frame.State.TheVariants as s;
 ghost use Rattle.rq_machine.specs.Behind.{IsTied, IsOpen};
 
+use crate::names::Step;
 use rq_grammar::{Frame, Measured, Stack, State};
 use rq_values::NoMemory;
 use std::alloc::Global;
@@ -36,7 +37,13 @@ pub(crate) fn reduce(
     ensures { IfOk result (λ p. p ≡ spec.reduce level stack expr) }
 {
     while let Some(frame) = stack.pop_closing(level) {
-        expr = build(alloc, frame, expr)?;
+        match build(alloc, frame, expr) {
+            Ok(built) => expr = built,
+            Err(error) => {
+                drop(stack);
+                return Err(error);
+            }
+        }
     }
     Ok((stack, expr))
 }
@@ -51,13 +58,17 @@ pub(crate) fn tied(
 ) -> Result<Option<(Stack, Measured)>, NoMemory>
     ensures { IfOk result (λ r. IsTied k m (spec.reduce k stack expr) r) }
 {
-    let (stack, expr) = reduce(alloc, stack, expr, k)?;
-    if k <= m && stack.room() <= k {
-        Ok(Some((stack, expr)))
-    } else {
-        drop(stack);
-        drop(expr);
-        Ok(None)
+    match reduce(alloc, stack, expr, k) {
+        Ok((stack, expr)) => {
+            if k <= m && stack.room() <= k {
+                Ok(Some((stack, expr)))
+            } else {
+                drop(stack);
+                drop(expr);
+                Ok(None)
+            }
+        }
+        Err(error) => Err(error),
     }
 }
 
@@ -70,16 +81,25 @@ pub(crate) fn opened(
 ) -> Result<(Option<Frame>, Stack, Measured), NoMemory>
     ensures { IfOk result (λ r. IsOpen (spec.reduce k stack expr) r.0 r.1 r.2) }
 {
-    let (mut stack, expr) = reduce(alloc, stack, expr, k)?;
-    let frame = stack.pop();
-    Ok((frame, stack, expr))
+    match reduce(alloc, stack, expr, k) {
+        Ok((mut stack, expr)) => {
+            let frame = stack.pop();
+            Ok((frame, stack, expr))
+        }
+        Err(error) => Err(error),
+    }
 }
 
 /// An operand is to come, behind one more frame.
-pub(crate) fn on(mut stack: Stack, frame: Frame) -> Result<State, NoMemory>
+pub(crate) fn going_on(mut stack: Stack, frame: Frame) -> Step
     requires { is_clause frame ≡ false }
-    ensures { IfOk result (λ x. x ≡ s.Operand (frame ∷ stack)) }
+    ensures { IfOk result (λ x. x ≡ Some (s.Operand (frame ∷ stack))) }
 {
-    stack.push(frame)?;
-    Ok(State::Operand(stack))
+    match stack.push(frame) {
+        Ok(()) => Ok(Some(State::Operand(stack))),
+        Err(error) => {
+            drop(stack);
+            Err(error)
+        }
+    }
 }

@@ -3,39 +3,77 @@
 ghost use Rattle.std.specs.Prelude.{◌≡◌, ◌∷◌, [], Some, IfOk};
 ghost use Rattle.rq_grammar.specs.Places as spec;
 ghost use Rattle.rq_grammar.specs.declared.place.Place.TheVariants as p;
+ghost use Rattle.rq_grammar.specs.declared.place.SelectPlace.TheVariants as sp;
 ghost use Rattle.rq_grammar.specs.declared.place.Stage.TheVariants as stage;
 ghost use Rattle.rq_grammar.specs.declared.stmt.ResultItem.TheVariants as item;
 ghost use Rattle.rq_machine.specs.Keywords.{is_from, is_where};
 
 use crate::clauses::{inside, stack_of};
 use crate::ended::behind_ended;
-use crate::names::{Step, name_of};
+use crate::names::{Step, at, behind, name_of};
 use crate::operand::operand;
-use rq_grammar::{Clause, Measured, MeasuredQuery, Place, Stage, State, Token, Word};
+use rq_grammar::{Clause, Measured, MeasuredQuery, Place, SelectPlace, Stage, Token, Word};
 use std::alloc::Global;
 
+/// The state behind the token, at a place of a select.
+#[tactic(auto, unfolding(rq_grammar::specs::Places::select_step))]
+pub(crate) fn select_step(alloc: Global, place: SelectPlace, token: Token) -> Step
+    ensures { IfOk result (λ next. next ≡ spec.select_step place token) }
+{
+    match place {
+        SelectPlace::Result(query) => result_at(alloc, query, token),
+        SelectPlace::Alias(query, expr) => alias_named(alloc, query, expr, token),
+        SelectPlace::Tail(stage, query) => behind(tail(alloc, stage, query, &token), token),
+        SelectPlace::From(query) => from_named(alloc, query, token),
+        SelectPlace::Order(query) => behind(behind_order(alloc, query, &token), token),
+    }
+}
+
+/// At a place of a select.
+fn select_at(alloc: Global, place: SelectPlace) -> Step
+    ensures { IfOk result (λ next. next ≡ spec.flat (p.Select place)) }
+{
+    at(alloc, Place::Select(place))
+}
+
+/// Behind a part of the select.
+pub(crate) fn tail_at(alloc: Global, stage: Stage, query: MeasuredQuery) -> Step
+    ensures { IfOk result (λ next. next ≡ spec.flat (p.Select (sp.Tail stage query))) }
+{
+    at(alloc, Place::Select(SelectPlace::Tail(stage, query)))
+}
+
 /// A result is to come.
-pub(crate) fn result_at(alloc: Global, query: MeasuredQuery, token: Token) -> Step
+fn result_at(alloc: Global, query: MeasuredQuery, token: Token) -> Step
     ensures { IfOk result (λ next. next ≡ spec.result query token) }
 {
     match &token {
         Token::Star => {
             drop(token);
-            Ok(Some(State::Flat(Place::Tail(Stage::Results, query.with_all()?))))
+            match query.with_all() {
+                Ok(query) => tail_at(alloc, Stage::Results, query),
+                Err(error) => Err(error),
+            }
         }
-        _ => operand(stack_of(alloc, Clause::Results(query))?, token),
+        _ => match stack_of(alloc, Clause::Results(query)) {
+            Ok(stack) => operand(stack, token),
+            Err(error) => {
+                drop(token);
+                Err(error)
+            }
+        },
     }
 }
 
 /// A result's name is to come.
-pub(crate) fn alias_named(query: MeasuredQuery, expr: Measured, token: Token) -> Step
-    ensures { IfOk result (λ next. next ≡ spec.on_name (spec.name_of token) (λ n. p.Tail stage.Results (spec.add_result query (item.Value expr (Some n))))) }
+fn alias_named(alloc: Global, query: MeasuredQuery, expr: Measured, token: Token) -> Step
+    ensures { IfOk result (λ next. next ≡ spec.on_name (spec.name_of token) (λ n. p.Select (sp.Tail stage.Results (spec.add_result query (item.Value expr (Some n)))))) }
 {
     match name_of(token) {
-        Some(name) => {
-            let query = query.with_result(expr, Some(name))?;
-            Ok(Some(State::Flat(Place::Tail(Stage::Results, query))))
-        }
+        Some(name) => match query.with_result(expr, Some(name)) {
+            Ok(query) => tail_at(alloc, Stage::Results, query),
+            Err(error) => Err(error),
+        },
         None => {
             drop(query);
             drop(expr);
@@ -45,20 +83,20 @@ pub(crate) fn alias_named(query: MeasuredQuery, expr: Measured, token: Token) ->
 }
 
 /// The table's name is to come.
-pub(crate) fn from_named(query: MeasuredQuery, token: Token) -> Option<State>
-    ensures { result ≡ spec.on_name (spec.name_of token) (λ n. p.Tail stage.Source (spec.with_table query n)) }
+fn from_named(alloc: Global, query: MeasuredQuery, token: Token) -> Step
+    ensures { IfOk result (λ next. next ≡ spec.on_name (spec.name_of token) (λ n. p.Select (sp.Tail stage.Source (spec.with_table query n)))) }
 {
     match name_of(token) {
-        Some(name) => Some(State::Flat(Place::Tail(Stage::Source, query.with_table(name)))),
+        Some(name) => tail_at(alloc, Stage::Source, query.with_table(name)),
         None => {
             drop(query);
-            None
+            Ok(None)
         }
     }
 }
 
 /// Behind `ORDER`.
-pub(crate) fn behind_order(alloc: Global, query: MeasuredQuery, token: &Token) -> Step
+fn behind_order(alloc: Global, query: MeasuredQuery, token: &Token) -> Step
     ensures { IfOk result (λ next. next ≡ spec.behind_order query token.now) }
 {
     match token {
@@ -76,7 +114,7 @@ fn behind_order_by(alloc: Global, query: MeasuredQuery, token: &Token) -> Step
 {
     match token {
         Token::Word(_, Word::Limit) => inside(alloc, Clause::Limit(query)),
-        _ => Ok(behind_ended(query.into_stmt(), token)),
+        _ => behind_ended(alloc, query.into_stmt(), token),
     }
 }
 
@@ -85,7 +123,7 @@ fn behind_where(alloc: Global, query: MeasuredQuery, token: &Token) -> Step
     ensures { IfOk result (λ next. next ≡ spec.behind_where query token.now) }
 {
     match token {
-        Token::Word(_, Word::Order) => Ok(Some(State::Flat(Place::Order(query)))),
+        Token::Word(_, Word::Order) => select_at(alloc, SelectPlace::Order(query)),
         _ => behind_order_by(alloc, query, token),
     }
 }
@@ -122,7 +160,7 @@ fn behind_results(alloc: Global, query: MeasuredQuery, token: &Token) -> Step
     ensures { IfOk result (λ next. next ≡ spec.behind_results query token.now) }
 {
     if is_from(token) {
-        Ok(Some(State::Flat(Place::From(query))))
+        select_at(alloc, SelectPlace::From(query))
     } else {
         behind_from(alloc, query, token)
     }
@@ -133,7 +171,7 @@ fn behind_result(alloc: Global, query: MeasuredQuery, token: &Token) -> Step
     ensures { IfOk result (λ next. next ≡ spec.tail stage.Results query token.now) }
 {
     match token {
-        Token::Comma => Ok(Some(State::Flat(Place::Result(query)))),
+        Token::Comma => select_at(alloc, SelectPlace::Result(query)),
         _ => behind_results(alloc, query, token),
     }
 }
@@ -149,7 +187,7 @@ fn behind_term(alloc: Global, query: MeasuredQuery, token: &Token) -> Step
 }
 
 /// Behind a part of a select.
-pub(crate) fn tail(alloc: Global, stage: Stage, query: MeasuredQuery, token: &Token) -> Step
+fn tail(alloc: Global, stage: Stage, query: MeasuredQuery, token: &Token) -> Step
     ensures { IfOk result (λ next. next ≡ spec.tail stage query token.now) }
 {
     match stage {
@@ -157,6 +195,6 @@ pub(crate) fn tail(alloc: Global, stage: Stage, query: MeasuredQuery, token: &To
         Stage::Source => behind_from(alloc, query, token),
         Stage::Filtered => behind_where(alloc, query, token),
         Stage::Ordered => behind_term(alloc, query, token),
-        Stage::Limited => Ok(behind_ended(query.into_stmt(), token)),
+        Stage::Limited => behind_ended(alloc, query.into_stmt(), token),
     }
 }

@@ -19,7 +19,7 @@ pub(crate) fn step(alloc: Global, state: State, token: Token) -> Step
     ensures { IfOk result (λ x. x ≡ spec.step state token) }
 {
     match state {
-        State::Flat(place) => place_step(alloc, place, token),
+        State::Flat(place) => place_step(alloc, place.into_inner(), token),
         State::Operand(stack) => operand(stack, token),
         State::Signed(stack) => signed(stack, token),
         State::Quoted(stack, name) => quoted(alloc, stack, name, token),
@@ -41,7 +41,7 @@ pub(crate) fn finish(alloc: Global, state: State) -> Result<Option<Stmt>, NoMemo
     ensures { IfOk result (λ x. x ≡ spec.finish state) }
 {
     match state {
-        State::Flat(place) => Ok(place_finish(place)),
+        State::Flat(place) => Ok(place_finish(place.into_inner())),
         State::Quoted(stack, name) => end(alloc, stack, Measured::name(name)),
         State::Named(stack, _is_count, name) => end(alloc, stack, Measured::name(name)),
         State::Done(stack, _level, expr) => end(alloc, stack, expr),

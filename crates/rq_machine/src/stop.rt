@@ -1,7 +1,7 @@
 //! Why the machine stops.
 
 /// Why the machine stops at a token.
-#[derive(Clone, Copy, Debug, PartialEq, Eq)]
+#[derive(Clone, Copy, PartialEq, Eq)]
 pub enum Stop {
     /// No statement goes on with it.
     NoStatement,

@@ -3,51 +3,82 @@
 ghost use Rattle.std.specs.Prelude.{◌≡◌, IfOk};
 ghost use Rattle.rq_grammar.specs.Places as spec;
 ghost use Rattle.rq_grammar.specs.declared.place.Place.TheVariants as p;
+ghost use Rattle.rq_grammar.specs.declared.place.UpdatePlace.TheVariants as up;
 
 use crate::clauses::inside;
 use crate::ended::behind_ended;
-use crate::names::{Step, name_of};
-use rq_grammar::{Clause, MeasuredSets, MeasuredStmt, Place, State, Token, Word};
+use crate::names::{Step, at, behind, name_of};
+use rq_grammar::{Clause, MeasuredSets, MeasuredStmt, Place, Token, UpdatePlace, Word};
 use rq_values::Text;
 use std::alloc::Global;
 
+/// The state behind the token, at a place of an `UPDATE`.
+#[tactic(auto, unfolding(rq_grammar::specs::Places::update_step))]
+pub(crate) fn update_step(alloc: Global, place: UpdatePlace, token: Token) -> Step
+    ensures { IfOk result (λ next. next ≡ spec.update_step place token) }
+{
+    match place {
+        UpdatePlace::Begun => update_named(alloc, token),
+        UpdatePlace::Table(table) => behind(behind_update(alloc, table, &token), token),
+        UpdatePlace::SetStart(table, sets) => set_named(alloc, table, sets, token),
+        UpdatePlace::SetName(table, sets, name) => {
+            behind(behind_set_name(alloc, table, sets, name, &token), token)
+        }
+        UpdatePlace::Sets(table, sets) => behind(behind_sets(alloc, table, sets, &token), token),
+    }
+}
+
+/// At a place of an `UPDATE`.
+fn update_at(alloc: Global, place: UpdatePlace) -> Step
+    ensures { IfOk result (λ next. next ≡ spec.flat (p.Update place)) }
+{
+    at(alloc, Place::Update(place))
+}
+
 /// The table's name is to come.
-pub(crate) fn update_named(token: Token) -> Option<State>
-    ensures { result ≡ spec.on_name (spec.name_of token) p.UpdateTable }
+fn update_named(alloc: Global, token: Token) -> Step
+    ensures { IfOk result (λ next. next ≡ spec.on_name (spec.name_of token) (λ n. p.Update (up.Table n))) }
 {
     match name_of(token) {
-        Some(name) => Some(State::Flat(Place::UpdateTable(name))),
-        None => None,
+        Some(name) => update_at(alloc, UpdatePlace::Table(name)),
+        None => Ok(None),
     }
 }
 
 /// Behind `UPDATE` and the table.
-pub(crate) fn behind_update(alloc: Global, table: Text, token: &Token) -> Option<State>
-    ensures { result ≡ spec.behind_update table token.now }
+fn behind_update(alloc: Global, table: Text, token: &Token) -> Step
+    ensures { IfOk result (λ next. next ≡ spec.behind_update table token.now) }
 {
     match token {
         Token::Word(_, Word::Set) => {
-            Some(State::Flat(Place::SetStart(table, MeasuredSets::new(alloc))))
+            update_at(
+                alloc,
+                UpdatePlace::SetStart(table, MeasuredSets::new(alloc)),
+            )
         }
-        _ => None,
+        _ => {
+            drop(table);
+            Ok(None)
+        }
     }
 }
 
 /// The name of a column to set is to come.
-pub(crate) fn set_named(table: Text, sets: MeasuredSets, token: Token) -> Option<State>
-    ensures { result ≡ spec.on_name (spec.name_of token) (p.SetName table sets) }
+fn set_named(alloc: Global, table: Text, sets: MeasuredSets, token: Token) -> Step
+    ensures { IfOk result (λ next. next ≡ spec.on_name (spec.name_of token) (λ n. p.Update (up.SetName table sets n))) }
 {
     match name_of(token) {
-        Some(name) => Some(State::Flat(Place::SetName(table, sets, name))),
+        Some(name) => update_at(alloc, UpdatePlace::SetName(table, sets, name)),
         None => {
+            drop(table);
             drop(sets);
-            None
+            Ok(None)
         }
     }
 }
 
 /// Behind the name of a column to set.
-pub(crate) fn behind_set_name(
+fn behind_set_name(
     alloc: Global,
     table: Text,
     sets: MeasuredSets,
@@ -59,19 +90,21 @@ pub(crate) fn behind_set_name(
     match token {
         Token::Equal => inside(alloc, Clause::Set { table, sets, name }),
         _ => {
+            drop(table);
             drop(sets);
+            drop(name);
             Ok(None)
         }
     }
 }
 
 /// Behind `name = expression`.
-pub(crate) fn behind_sets(alloc: Global, table: Text, sets: MeasuredSets, token: &Token) -> Step
+fn behind_sets(alloc: Global, table: Text, sets: MeasuredSets, token: &Token) -> Step
     ensures { IfOk result (λ next. next ≡ spec.behind_sets table sets token.now) }
 {
     match token {
-        Token::Comma => Ok(Some(State::Flat(Place::SetStart(table, sets)))),
+        Token::Comma => update_at(alloc, UpdatePlace::SetStart(table, sets)),
         Token::Word(_, Word::Where) => inside(alloc, Clause::UpdateFilter { table, sets }),
-        _ => Ok(behind_ended(MeasuredStmt::update(table, sets, None), token)),
+        _ => behind_ended(alloc, MeasuredStmt::update(table, sets, None), token),
     }
 }

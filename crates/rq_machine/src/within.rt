@@ -1,10 +1,10 @@
 //! The machine within the limits.
 
-ghost use Rattle.std.specs.Prelude.{◌≡◌, ◌≤◌, Ok, Err, IfOk, MatchResult, Some};
+ghost use Rattle.std.specs.Prelude.{◌≡◌, ◌≤◌, IfOk, Some};
 ghost use Rattle.rq_grammar.specs.Depth as spec;
 ghost use Rattle.rq_grammar.specs.Machine as m;
 ghost use Rattle.rq_grammar.specs.Weight.{limited};
-ghost use Rattle.rq_machine.specs.Stop.{stop_of};
+ghost use Rattle.rq_machine.specs.Stop.{Answers, Advances};
 
 use crate::limits::{fits, open_behind};
 use crate::step;
@@ -21,19 +21,20 @@ pub fn advance(
     token: Token,
 ) -> Result<Result<State, Stop>, NoMemory>
     requires { opened ≤ 250 }
-    ensures { IfOk result (λ r. MatchResult r (λ q. limited spec.the_limits (spec.open_behind opened token) (m.step state token) ≡ Ok q) (λ stop. limited spec.the_limits (spec.open_behind opened token) (m.step state token) ≡ Err (stop_of stop))) }
+    ensures { IfOk result (λ r. Advances opened state token r) }
 {
     let behind = open_behind(opened, &token);
-    match step::step(alloc, state, token)? {
-        Some(next) => Ok(limit(behind, next)),
-        None => Ok(Err(Stop::NoStatement)),
+    match step::step(alloc, state, token) {
+        Ok(Some(next)) => Ok(limit(behind, next)),
+        Ok(None) => Ok(Err(Stop::NoStatement)),
+        Err(error) => Err(error),
     }
 }
 
 /// The state, where it is within the limits.
 fn limit(opened: u32, next: State) -> Result<State, Stop>
     requires { opened ≤ 251 }
-    ensures { MatchResult result (λ q. limited spec.the_limits opened (Some next) ≡ Ok q) (λ stop. limited spec.the_limits opened (Some next) ≡ Err (stop_of stop)) }
+    ensures { Answers (limited spec.the_limits opened (Some next)) result }
 {
     if fits(opened, &next) {
         Ok(next)

@@ -9,7 +9,7 @@ ghost use Rattle.rq_sql.specs.Running.{runs};
 
 use crate::error::ReadError;
 use crate::steps::{Next, take_token};
-use rq_grammar::{Place, State, Stmt, one_place, one_statement, reads_within_limits};
+use rq_grammar::{State, Stmt, one_place, one_statement, reads_within_limits};
 use rq_lexer::Lexer;
 use std::alloc::Global;
 
@@ -22,7 +22,7 @@ fn run(alloc: Global, text: &[u8]) -> Result<Stmt, ReadError>
 {
     let mut lexer = Lexer::new(text);
     let mut opened = 0;
-    let mut state = State::Flat(Place::Start);
+    let mut state = State::start(alloc)?;
     loop {
         match take_token(alloc, text.len(), &mut lexer, opened, state)? {
             Next::Further(behind, next) => {
