@@ -3,3 +3,4 @@ pub mod Numbers
 pub mod Fronts
 pub mod Cut
 pub mod Spelled
+pub mod OneNext

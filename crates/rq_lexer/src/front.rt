@@ -101,10 +101,10 @@ fn quoted(alloc: Global, quote: u8, text: &[u8]) -> Result<(Option<Text>, usize)
     ensures within { IfOk result (λ q. q.1 ≤ length text.now) }
 {
     match closing(quote, text) {
-        Some(len) => {
-            let inside = undoubled(alloc, quote, &text[..len - 1])?;
-            Ok((Text::new(alloc, inside.as_slice())?, len))
-        }
+        Some(len) => match undoubled(alloc, quote, &text[..len - 1]) {
+            Ok(inside) => Ok((Text::from_vec(inside), len)),
+            Err(error) => Err(error),
+        },
         None => Ok((None, text.len())),
     }
 }

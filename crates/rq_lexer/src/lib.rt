@@ -8,6 +8,8 @@ mod placed;
 mod scan;
 mod words;
 
-pub use laws::{at_most_one_token_a_byte, tokens_are_read_as_spelled, tokens_in_order};
+pub use laws::{
+    at_most_one_token_a_byte, each_call_has_one_answer, tokens_are_read_as_spelled, tokens_in_order,
+};
 pub use lexer::Lexer;
 pub use placed::Placed;
