@@ -5,7 +5,7 @@ use Rattle.rq_outside.specs.declared.pair.FileNo.{FileNo}
 use Rattle.rq_outside.specs.declared.pair.FileNo.TheVariants.{One, Two}
 use Rattle.rq_outside.specs.Disk.{DiskMeaning}
 use Rattle.rq_outside.specs.Pair.{disk_at}
-use Rattle.rq_outside.specs.declared.fakes.sure_disk.SureDisk.{SureDisk}
+use Rattle.rq_outside.specs.declared.in_memory.sure_disk.SureDisk.{SureDisk}
 use Rattle.rq_outside.specs.Memory.{journal_means}
 
 module _ {D F : Type 0} (made : ℕ → FileNo → D → Type 0) where

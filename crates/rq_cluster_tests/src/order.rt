@@ -1,5 +1,5 @@
 //! A line's text is written before the next line is done, and files are written at each event.
-ghost use Rattle.std.specs.Prelude.{◌<◌, [], length, true};
+ghost use Rattle.std.specs.Prelude.{◌<◌, [], length, None, true};
 ghost use Rattle.rq_outside.specs.Disk.{Only};
 ghost use Rattle.rq_outside.specs.Memory.{journal_means};
 
@@ -26,6 +26,8 @@ impl Disk for CountedDisk<'_> {
     ghost means = { λ disk. journal_means disk.disk.journal 0 };
 
     type Fault = ();
+
+    ghost first_fault = { λ _. None };
 
     fn fault(&self) -> Option<()> {
         self.disk.fault()

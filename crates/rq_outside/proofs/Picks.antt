@@ -3,8 +3,8 @@ use Rattle.std.proofs.Common.{Bool, true, false, ◌&&◌, nat_le, nat_eq, leb-t
 use Rattle.std.proofs.lemmas.Bool.{cases_lt, cases_eq}
 use Rattle.std.proofs.lemmas.Bool.Decides.{nat_tests}
 use Rattle.std.proofs.lemmas.List.{drop_more, length-take-le, take-append-le, drop-drop, take_all, drop_all, append-nil, length-replicate}
-use Rattle.rq_outside.specs.declared.fakes.journal.Call.{Call}
-use Rattle.rq_outside.specs.declared.fakes.journal.Call.TheVariants.{Write, Cut, Sync}
+use Rattle.rq_outside.specs.declared.in_memory.journal.Call.{Call}
+use Rattle.rq_outside.specs.declared.in_memory.journal.Call.TheVariants.{Write, Cut, Sync}
 use Rattle.rq_outside.specs.Disk.{Torn, Cut as IsCut}
 use Rattle.rq_outside.specs.Playing.{torn_by, cut_by, and_true}
 use Rattle.rq_outside.specs.Replay.{total_of, overwritten, padded, is_valid, has_no_sync, synced_calls, IsTornBy, content_after, torn_write, torn_after, left_after}

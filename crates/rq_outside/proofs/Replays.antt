@@ -2,8 +2,8 @@
 use Rattle.std.proofs.Common.{Bool, true, false, ◌&&◌, nat_le, ◌≡◌, ◌≤◌, ◌<◌, ◌⊎◌, inl, inr, ℕ, zero, suc, ◌+◌, List, [], ◌∷◌, ◌++◌, length, get_or, take, drop, refl, sym, ◌∙◌, ap, subst, arith, length-append, length-drop, take-append-drop}
 use Rattle.std.proofs.lemmas.Bool.{cases_lt}
 use Rattle.std.proofs.lemmas.List.{drop_more, take-append-le, drop-append-le, drop-drop, take_all, drop_at}
-use Rattle.rq_outside.specs.declared.fakes.journal.Call.{Call}
-use Rattle.rq_outside.specs.declared.fakes.journal.Call.TheVariants.{Write, Cut, Sync}
+use Rattle.rq_outside.specs.declared.in_memory.journal.Call.{Call}
+use Rattle.rq_outside.specs.declared.in_memory.journal.Call.TheVariants.{Write, Cut, Sync}
 use Rattle.rq_outside.specs.Disk.{Torn, Cut as IsCut, Elapses}
 use Rattle.rq_outside.specs.Playing.{reads_image, and_true}
 use Rattle.rq_outside.specs.Replay.{total_of, overwritten, is_valid, has_no_sync, IsTornBy, content_after, images_after, left_after, left_since, meaning_of}

@@ -1,9 +1,9 @@
 -- What the disks in memory tell, and the laws that a disk owes.
 use Rattle.std.specs.Prelude.{◌≤◌, ℕ, List}
 use Rattle.std.proofs.Common.{refl, sym, subst, arith}
-use Rattle.rq_outside.specs.declared.fakes.journal.Journal.{Journal}
-use Rattle.rq_outside.specs.declared.fakes.disk.MemDisk.{MemDisk}
-use Rattle.rq_outside.specs.declared.fakes.sure_disk.SureDisk.{SureDisk}
+use Rattle.rq_outside.specs.declared.in_memory.journal.Journal.{Journal}
+use Rattle.rq_outside.specs.declared.in_memory.disk.MemDisk.{MemDisk}
+use Rattle.rq_outside.specs.declared.in_memory.sure_disk.SureDisk.{SureDisk}
 use Rattle.rq_outside.specs.Memory.{journal_means}
 use Rattle.rq_outside.specs.Playing.{reads_image, counts, only}
 use Rattle.rq_outside.specs.Replay.{left_after, picked}

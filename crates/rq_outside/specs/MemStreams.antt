@@ -1,9 +1,9 @@
 -- What sources and sinks in memory tell.
 use Rattle.std.specs.Prelude.{ℕ, List, drop}
-use Rattle.rq_outside.specs.declared.fakes.source.MemSource.{MemSource}
-use Rattle.rq_outside.specs.declared.fakes.source.SureSource.{SureSource}
-use Rattle.rq_outside.specs.declared.fakes.sink.MemSink.{MemSink}
-use Rattle.rq_outside.specs.declared.fakes.sink.SureSink.{SureSink}
+use Rattle.rq_outside.specs.declared.in_memory.source.MemSource.{MemSource}
+use Rattle.rq_outside.specs.declared.in_memory.source.SureSource.{SureSource}
+use Rattle.rq_outside.specs.declared.in_memory.sink.MemSink.{MemSink}
+use Rattle.rq_outside.specs.declared.in_memory.sink.SureSink.{SureSink}
 
 -- the bytes left in a source
 abbrev pub left_in_sure : SureSource → List ℕ

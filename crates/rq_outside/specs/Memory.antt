@@ -1,5 +1,5 @@
 use Rattle.std.specs.Prelude.{ℕ}
-use Rattle.rq_outside.specs.declared.fakes.journal.Journal.{Journal}
+use Rattle.rq_outside.specs.declared.in_memory.journal.Journal.{Journal}
 use Rattle.rq_outside.specs.Disk.{DiskMeaning}
 use Rattle.rq_outside.specs.Replay.{meaning_of}
 

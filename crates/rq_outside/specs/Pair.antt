@@ -1,5 +1,5 @@
 -- Two disks as one, and the calls that an armed pair still passes.
-use Rattle.std.specs.Prelude.{ℕ, zero, suc, ◌-◌, ◌≡◌, ◌≤◌, ◌⊎◌, Result, IsErr, OnErr}
+use Rattle.std.specs.Prelude.{ℕ, zero, suc, Option, Some, None, ◌-◌, ◌≡◌, ◌≤◌, ◌⊎◌, Result, IsErr, OnErr}
 use Rattle.rq_outside.specs.declared.pair.FileNo.{FileNo}
 use Rattle.rq_outside.specs.declared.pair.FileNo.TheVariants.{One, Two}
 use Rattle.rq_outside.specs.declared.pair.Arm.{Arm}
@@ -19,6 +19,11 @@ other Two = One
 abbrev pub disk_at : {D F : Type 0} → DiskPair D F → FileNo → D
 disk_at pair One = pair.one
 disk_at pair Two = pair.two
+
+-- the first of two that there is
+abbrev pub first_of : {F : Type 0} → Option F → Option F → Option F
+first_of (Some fault) other = Some fault
+first_of None other = other
 
 -- what it still passes, where it is armed
 abbrev pub arm_of : {D F : Type 0} → DiskPair D F → Arm

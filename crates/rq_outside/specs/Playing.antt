@@ -1,8 +1,8 @@
 -- What reads after the calls is one of the images, and all calls are those that were made.
 use Rattle.std.proofs.Common.{Bool, true, false, ◌&&◌, nat_le, leb-true, ◌≡◌, ◌≤◌, ℕ, zero, suc, ◌+◌, List, [], ◌∷◌, ◌++◌, length, take, drop, refl, sym, ◌∙◌, ap, subst, arith, append_assoc, length-append, length-take, length-drop}
 use Rattle.std.proofs.lemmas.List.{length-take-le, take_at, drop_at, take_all}
-use Rattle.rq_outside.specs.declared.fakes.journal.Call.{Call}
-use Rattle.rq_outside.specs.declared.fakes.journal.Call.TheVariants.{Write, Cut, Sync}
+use Rattle.rq_outside.specs.declared.in_memory.journal.Call.{Call}
+use Rattle.rq_outside.specs.declared.in_memory.journal.Call.TheVariants.{Write, Cut, Sync}
 use Rattle.rq_outside.specs.Disk.{Torn, Cut as IsCut}
 use Rattle.rq_outside.specs.Replay.{total_of, overwritten, is_valid, content_after, images_after, left_after, left_since}
 

@@ -1,7 +1,7 @@
 -- What a disk in memory holds, and what a crash may leave of it, after the calls that changed it.
 use Rattle.std.specs.Prelude.{Bool, true, false, ◌&&◌, nat_le, ◌≡◌, ℕ, suc, ◌+◌, ◌-◌, ◌/◌, ◌≤◌, ◌==◌, if◌then◌else◌, List, [], ◌∷◌, ◌++◌, length, take, drop, replicate}
-use Rattle.rq_outside.specs.declared.fakes.journal.Call.{Call}
-use Rattle.rq_outside.specs.declared.fakes.journal.Call.TheVariants.{Write, Cut, Sync}
+use Rattle.rq_outside.specs.declared.in_memory.journal.Call.{Call}
+use Rattle.rq_outside.specs.declared.in_memory.journal.Call.TheVariants.{Write, Cut, Sync}
 use Rattle.rq_outside.specs.Disk.{DiskMeaning, Torn, Cut as IsCut}
 
 -- how many bytes the calls wrote

@@ -1,5 +1,5 @@
 // A disk as its callers see it: what a read gives, what a crash may leave, and how often it has failed.
-ghost use Rattle.std.specs.Prelude.{◌≡◌, ◌≤◌, ◌<◌, ◌-◌, ◌++◌, min, Bool, List, ℕ, length, take, drop, IsTrue, IfOk, OnOk, OnErr, IsNone, ◌↔◌};
+ghost use Rattle.std.specs.Prelude.{◌≡◌, ◌≤◌, ◌<◌, ◌-◌, ◌++◌, min, Bool, List, Option, ℕ, length, take, drop, IsTrue, IfOk, OnOk, OnErr, IsNone, ◌↔◌};
 ghost use Rattle.rq_outside.specs.Counts.{HasCause};
 ghost use Rattle.rq_outside.specs.Disk.{DiskMeaning, Follows, Torn, Cut, Holds, Only, Elapses, Stays, KeepsRoom, HasRoom, Uses};
 
@@ -17,9 +17,13 @@ pub trait Disk {
     /// What a fault leaves to be shown.
     type Fault: Copy + Send + 'static;
 
+    /// What the first fault left, if any.
+    ghost first_fault: { Self → Option Self.Fault };
+
     /// The first fault, if any.
     fn fault(&self) -> Option<Self::Fault>
-        ensures { IsNone result ↔ ((means self.now).faults ≡ 0) };
+        ensures first { result ≡ first_fault self.now }
+        ensures none { IsNone result ↔ ((means self.now).faults ≡ 0) };
 
     /// Makes room: the next `calls` changing calls that write at most `bytes` together take no memory.
     fn ready(&mut self, bytes: u64, calls: u32) -> Result<(), NoMemory>

@@ -3,7 +3,7 @@ ghost use Rattle.std.specs.Prelude.{◌≡◌, ◌⊎◌, ◌≤◌, ◌<◌, �
 ghost use Rattle.rq_outside.specs.Counts.{Rose, HasCause};
 ghost use Rattle.rq_outside.specs.Disk.{Follows, Torn, Cut, Holds, Only, Elapses, Stays, KeepsRoom, HasRoom, Uses};
 ghost use Rattle.rq_outside.specs.declared.pair.FileNo.{FileNo};
-ghost use Rattle.rq_outside.specs.Pair.{other, disk_at, arm_of, own_faults, Passed, Looked, PairCause, Began};
+ghost use Rattle.rq_outside.specs.Pair.{other, disk_at, arm_of, own_faults, Passed, Looked, PairCause, Began, first_of};
 
 use crate::disk::{CrashDisk, Disk};
 use crate::error::Failed;
@@ -290,8 +290,10 @@ impl<D: Disk> DiskPair<D> {
         }
     }
 
+    /// The first fault of file one, else that of file two. A stop by the pair's arm is none.
     pub fn fault(&self) -> Option<D::Fault>
-        ensures { IsNone result ↔ (((D.means (disk_at self.now FileNo.One)).faults ≡ 0) × ((D.means (disk_at self.now FileNo.Two)).faults ≡ 0)) }
+        ensures first { result ≡ first_of (D.first_fault (disk_at self.now FileNo.One)) (D.first_fault (disk_at self.now FileNo.Two)) }
+        ensures none { IsNone result ↔ (((D.means (disk_at self.now FileNo.One)).faults ≡ 0) × ((D.means (disk_at self.now FileNo.Two)).faults ≡ 0)) }
     {
         match self.one.fault() {
             Some(fault) => Some(fault),

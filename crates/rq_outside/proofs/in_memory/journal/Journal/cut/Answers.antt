@@ -1,0 +1,31 @@
+use Rattle.std.proofs.Common.{ℕ, List, [], take, refl, sym, ◌∙◌, ap}
+use Rattle.std.proofs.lemmas.List.{append-nil}
+use Rattle.rq_outside.specs.declared.in_memory.journal.Call.TheVariants.{Cut}
+use Rattle.rq_outside.proofs.Replays.{content_then, images_then, time_then, total_then, valid_then}
+use Rattle.rq_outside.proofs.in_memory.journal.Journal.cut.Goals as goal
+
+pub invariant_of-self-clause-reads : goal.invariant_of-self-clause-reads
+invariant_of-self-clause-reads c =
+    let old = c.args.self.now in
+    c.truncate.ensures.items ∙ ap (λ (l : List ℕ). take c.args.to l) old.reads
+    ∙ sym (content_then old.calls.items old.written.items old.first.items old.total (Cut c.args.to) [] c.push_reserved.new.self.items old.written.items c.push_reserved.ensures.items (sym (append-nil old.written.items)))
+
+pub invariant_of-self-clause-total : goal.invariant_of-self-clause-total
+invariant_of-self-clause-total c =
+    let old = c.args.self.now in
+    total_then old.calls.items old.written.items old.first.items old.total (Cut c.args.to) [] c.push_reserved.new.self.items old.written.items c.push_reserved.ensures.items (sym (append-nil old.written.items)) refl
+
+pub invariant_of-self-clause-valid : goal.invariant_of-self-clause-valid
+invariant_of-self-clause-valid c =
+    let old = c.args.self.now in
+    valid_then old.calls.items old.written.items old.first.items old.total (Cut c.args.to) [] c.push_reserved.new.self.items old.written.items c.push_reserved.ensures.items (sym (append-nil old.written.items)) old.valid refl
+
+pub returns-clause-time : goal.returns-clause-time
+returns-clause-time c =
+    let old = c.args.self.now in
+    time_then old.calls.items old.written.items old.first.items old.total (Cut c.args.to) [] c.push_reserved.new.self.items old.written.items c.push_reserved.ensures.items (sym (append-nil old.written.items)) _ _ _ _ _ _ _ _
+
+pub returns-clause-images : goal.returns-clause-images
+returns-clause-images c =
+    let old = c.args.self.now in
+    images_then old.calls.items old.written.items old.first.items old.total (Cut c.args.to) [] c.push_reserved.new.self.items old.written.items c.push_reserved.ensures.items (sym (append-nil old.written.items))
