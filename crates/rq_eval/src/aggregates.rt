@@ -1,0 +1,75 @@
+//! Aggregates: what one has so far, and one more value.
+
+ghost use Rattle.std.specs.Prelude.{◌≡◌};
+ghost use Rattle.rq_eval.specs.Aggregates as spec;
+
+use crate::arithmetic::{Arithmetic, calculate};
+use crate::comparing::is_null;
+use crate::error::StmtError;
+use crate::resolved::AggregateOp;
+use rq_values::{Value, compare};
+
+fn added(so_far: &Value, value: &Value) -> Result<Value, StmtError>
+    ensures { result ≡ spec.added so_far.now value.now }
+{
+    match so_far {
+        Value::Null => calculate(Arithmetic::Add, &Value::Int(0), value),
+        Value::Int(_) => calculate(Arithmetic::Add, so_far, value),
+        Value::Text(_) => Err(StmtError::NotInteger),
+        Value::Blob(_) => Err(StmtError::NotInteger),
+    }
+}
+
+fn least(so_far: Value, value: Value) -> Value
+    ensures { result ≡ spec.chosen spec.is_less so_far value }
+{
+    if is_null(&so_far) || compare(&value, &so_far).is_lt() {
+        value
+    } else {
+        so_far
+    }
+}
+
+fn greatest(so_far: Value, value: Value) -> Value
+    ensures { result ≡ spec.chosen spec.is_greater so_far value }
+{
+    if is_null(&so_far) || compare(&value, &so_far).is_gt() {
+        value
+    } else {
+        so_far
+    }
+}
+
+fn accumulated(op: AggregateOp, so_far: Value, value: Value) -> Result<Value, StmtError>
+    ensures { result ≡ spec.accumulated op so_far value }
+{
+    match op {
+        AggregateOp::Count => added(&so_far, &Value::Int(1)),
+        AggregateOp::Sum => added(&so_far, &value),
+        AggregateOp::Min => Ok(least(so_far, value)),
+        AggregateOp::Max => Ok(greatest(so_far, value)),
+    }
+}
+
+/// What the aggregate has with one more value.
+pub fn one_more(op: AggregateOp, so_far: Value, value: Value) -> Result<Value, StmtError>
+    ensures { result ≡ spec.one_more op so_far value }
+{
+    if is_null(&value) {
+        Ok(so_far)
+    } else {
+        accumulated(op, so_far, value)
+    }
+}
+
+/// What the aggregate has over no rows.
+pub fn start(op: AggregateOp) -> Value
+    ensures { result ≡ spec.start op }
+{
+    match op {
+        AggregateOp::Count => Value::Int(0),
+        AggregateOp::Sum => Value::Null,
+        AggregateOp::Min => Value::Null,
+        AggregateOp::Max => Value::Null,
+    }
+}

@@ -1,0 +1,143 @@
+//! Arithmetic.
+
+ghost use Rattle.std.specs.Prelude.{◌≡◌};
+ghost use Rattle.rq_eval.specs.Operators as spec;
+
+use crate::comparing::{either_null, is_null};
+use crate::error::StmtError;
+use rq_values::Value;
+
+/// An operator between two integers.
+#[derive(Clone, Copy)]
+pub enum Arithmetic {
+    Add,
+    Sub,
+    Mul,
+    Div,
+    Rem,
+}
+
+fn integer(value: &Value) -> Result<i64, StmtError>
+    ensures { result ≡ spec.integer value.now }
+{
+    match value {
+        Value::Null => Err(StmtError::NotInteger),
+        Value::Int(n) => Ok(*n),
+        Value::Text(_) => Err(StmtError::NotInteger),
+        Value::Blob(_) => Err(StmtError::NotInteger),
+    }
+}
+
+fn sum(m: i64, n: i64) -> Result<Value, StmtError>
+    ensures { result ≡ spec.sum m n }
+{
+    match m.checked_add(n) {
+        Some(k) => Ok(Value::Int(k)),
+        None => Err(StmtError::IntegerOverflow),
+    }
+}
+
+fn difference(m: i64, n: i64) -> Result<Value, StmtError>
+    ensures { result ≡ spec.difference m n }
+{
+    match m.checked_sub(n) {
+        Some(k) => Ok(Value::Int(k)),
+        None => Err(StmtError::IntegerOverflow),
+    }
+}
+
+fn product(m: i64, n: i64) -> Result<Value, StmtError>
+    ensures { result ≡ spec.product m n }
+{
+    match m.checked_mul(n) {
+        Some(k) => Ok(Value::Int(k)),
+        None => Err(StmtError::IntegerOverflow),
+    }
+}
+
+fn quotient(m: i64, n: i64) -> Result<Value, StmtError>
+    ensures { result ≡ spec.quotient m n }
+{
+    if n == 0 {
+        return Ok(Value::Null);
+    }
+    match m.checked_div(n) {
+        Some(k) => Ok(Value::Int(k)),
+        None => Err(StmtError::IntegerOverflow),
+    }
+}
+
+fn remainder(m: i64, n: i64) -> Result<Value, StmtError>
+    ensures { result ≡ spec.remainder m n }
+{
+    if n == 0 {
+        return Ok(Value::Null);
+    }
+    match m.checked_rem(n) {
+        Some(k) => Ok(Value::Int(k)),
+        None => Ok(Value::Int(0)),
+    }
+}
+
+fn negative(n: i64) -> Result<Value, StmtError>
+    ensures { result ≡ spec.negative n }
+{
+    match n.checked_neg() {
+        Some(k) => Ok(Value::Int(k)),
+        None => Err(StmtError::IntegerOverflow),
+    }
+}
+
+fn absolute(n: i64) -> Result<Value, StmtError>
+    ensures { result ≡ spec.absolute n }
+{
+    if n < 0 {
+        negative(n)
+    } else {
+        Ok(Value::Int(n))
+    }
+}
+
+fn calculated(op: Arithmetic, m: i64, n: i64) -> Result<Value, StmtError>
+    ensures { result ≡ spec.calculated op m n }
+{
+    match op {
+        Arithmetic::Add => sum(m, n),
+        Arithmetic::Sub => difference(m, n),
+        Arithmetic::Mul => product(m, n),
+        Arithmetic::Div => quotient(m, n),
+        Arithmetic::Rem => remainder(m, n),
+    }
+}
+
+/// `+`, `-`, `*`, `/` and `%`
+pub fn calculate(op: Arithmetic, a: &Value, b: &Value) -> Result<Value, StmtError>
+    ensures { result ≡ spec.arithmetic op a.now b.now }
+{
+    if either_null(a, b) {
+        return Ok(Value::Null);
+    }
+    let m = integer(a)?;
+    let n = integer(b)?;
+    calculated(op, m, n)
+}
+
+/// A front `-`
+pub fn minus(a: &Value) -> Result<Value, StmtError>
+    ensures { result ≡ spec.on_integer spec.negative a.now }
+{
+    if is_null(a) {
+        return Ok(Value::Null);
+    }
+    negative(integer(a)?)
+}
+
+/// ABS
+pub fn absolute_value(a: &Value) -> Result<Value, StmtError>
+    ensures { result ≡ spec.on_integer spec.absolute a.now }
+{
+    if is_null(a) {
+        return Ok(Value::Null);
+    }
+    absolute(integer(a)?)
+}

@@ -1,0 +1,263 @@
+//! The value of a resolved expression. The recursion is as deep as the expression: what is read has at most 100 levels, and
+//! settling makes none deeper.
+
+ghost use Rattle.std.specs.Prelude.{◌≡◌, IfOk, IfSome, Ok, Err, map};
+ghost use Rattle.rq_eval.specs.Outcome.{Answers, IsMade};
+ghost use Rattle.rq_eval.specs.Aggregates as aggregates;
+ghost use Rattle.rq_eval.specs.Functions as functions;
+ghost use Rattle.rq_eval.specs.Names.{row_of, value_at};
+ghost use Rattle.rq_eval.specs.Resolved as spec;
+
+use crate::aggregates::{one_more, start};
+use crate::arithmetic::{Arithmetic, absolute_value, calculate, minus};
+use crate::comparing::{between, compared, first_non_null, in_list, is_same};
+use crate::dates::time_part;
+use crate::error::{EvalError, StmtError};
+use crate::logic::{logical_and, logical_not, logical_or, truth};
+use crate::resolved::{AggregateOp, ResolveError, ResolvedExpr, UnaryOp};
+use crate::row::RowView;
+use crate::texts::{concatenate, count, hex, length, like, lower, type_of, upper};
+use rq_grammar::BinaryOp;
+use rq_values::{NoMemory, TryCopy, Value, compare};
+use sqlite_items::{Items, at};
+use std::alloc::Global;
+
+/// What an operator that takes no memory gives.
+fn given(outcome: Result<Value, StmtError>) -> Result<Value, EvalError>
+    ensures { Answers outcome result }
+{
+    match outcome {
+        Ok(value) => Ok(value),
+        Err(error) => Err(EvalError::Says(error)),
+    }
+}
+
+fn made(value: Result<Value, NoMemory>) -> Result<Value, EvalError>
+    ensures { IsMade value result }
+{
+    match value {
+        Ok(value) => Ok(value),
+        Err(_) => Err(EvalError::NoMemory),
+    }
+}
+
+fn copied(alloc: Global, value: &Value) -> Result<Value, EvalError>
+    ensures { Answers (Ok value.now) result }
+{
+    Ok(value.copy(alloc)?)
+}
+
+fn unary(alloc: Global, op: UnaryOp, a: &Value) -> Result<Value, EvalError>
+    ensures { Answers (functions.unary op a.now) result }
+{
+    match op {
+        UnaryOp::Minus => given(minus(a)),
+        UnaryOp::Not => given(logical_not(a)),
+        UnaryOp::Abs => given(absolute_value(a)),
+        UnaryOp::Length => given(length(a)),
+        UnaryOp::Lower => lower(alloc, a),
+        UnaryOp::Upper => upper(alloc, a),
+        UnaryOp::Hex => made(hex(alloc, a)),
+        UnaryOp::TypeOf => type_of(alloc, a),
+        UnaryOp::Part(part) => time_part(alloc, part, a),
+    }
+}
+
+fn not_like(alloc: Global, a: &Value, b: &Value) -> Result<Value, EvalError>
+    ensures { Answers (functions.binary functions.not_like a.now b.now) result }
+{
+    let is = like(alloc, a, b)?;
+    given(logical_not(&is))
+}
+
+fn binary(alloc: Global, op: BinaryOp, a: &Value, b: &Value) -> Result<Value, EvalError>
+    ensures { Answers (functions.binary op a.now b.now) result }
+{
+    match op {
+        BinaryOp::Or => given(logical_or(a, b)),
+        BinaryOp::And => given(logical_and(a, b)),
+        BinaryOp::Equal => Ok(compared(a, b, compare(a, b).is_eq())),
+        BinaryOp::NotEqual => Ok(compared(a, b, compare(a, b).is_ne())),
+        BinaryOp::Is => Ok(truth(Some(is_same(a, b)))),
+        BinaryOp::IsNot => Ok(truth(Some(!is_same(a, b)))),
+        BinaryOp::Like => like(alloc, a, b),
+        BinaryOp::NotLike => not_like(alloc, a, b),
+        BinaryOp::Less => Ok(compared(a, b, compare(a, b).is_lt())),
+        BinaryOp::LessEqual => Ok(compared(a, b, compare(a, b).is_le())),
+        BinaryOp::Greater => Ok(compared(a, b, compare(a, b).is_gt())),
+        BinaryOp::GreaterEqual => Ok(compared(a, b, compare(a, b).is_ge())),
+        BinaryOp::Add => given(calculate(Arithmetic::Add, a, b)),
+        BinaryOp::Sub => given(calculate(Arithmetic::Sub, a, b)),
+        BinaryOp::Mul => given(calculate(Arithmetic::Mul, a, b)),
+        BinaryOp::Div => given(calculate(Arithmetic::Div, a, b)),
+        BinaryOp::Rem => given(calculate(Arithmetic::Rem, a, b)),
+        BinaryOp::Concat => concatenate(alloc, a, b),
+    }
+}
+
+/// The value at a place of a row; behind the columns stands the rowid.
+fn column(alloc: Global, row: &RowView<'_>, place: usize) -> Result<Value, EvalError>
+    ensures { Answers (Ok (value_at (row_of row.now) place)) result }
+{
+    match at(row.values, place) {
+        Some(value) => copied(alloc, value),
+        None => Ok(Value::Int(row.rowid)),
+    }
+}
+
+fn error_of(alloc: Global, error: &ResolveError) -> Result<StmtError, NoMemory>
+    ensures { IfOk result (λ e. e ≡ spec.error_of error.now) }
+{
+    match error {
+        ResolveError::NoColumn(name) => Ok(StmtError::NoColumn(name.copy(alloc)?)),
+        ResolveError::NoQualifiedColumn { table, column } => {
+            let table = table.copy(alloc)?;
+            let column = column.copy(alloc)?;
+            Ok(StmtError::NoQualifiedColumn { table, column })
+        }
+        ResolveError::NoFunction(name) => Ok(StmtError::NoFunction(name.copy(alloc)?)),
+        ResolveError::WrongArguments(name) => Ok(StmtError::WrongArguments(name.copy(alloc)?)),
+        ResolveError::MisuseOfAggregate => Ok(StmtError::MisuseOfAggregate),
+    }
+}
+
+fn says(alloc: Global, error: &ResolveError) -> Result<Value, EvalError>
+    ensures { Answers (Err (spec.error_of error.now)) result }
+{
+    Err(EvalError::Says(error_of(alloc, error)?))
+}
+
+/// An operand's value: where it stands in the expression or in the row, or one that was made.
+#[derive(Drop)]
+pub enum Operand<'e, 'r> {
+    Literal(&'e Value),
+    Column(&'r Value),
+    Made(Value),
+}
+
+impl Operand<'_, '_> {
+    fn get(&self) -> &Value
+        ensures { result.now ≡ spec.operand_value self.now }
+    {
+        match self {
+            Operand::Literal(value) => value,
+            Operand::Column(value) => value,
+            Operand::Made(value) => value,
+        }
+    }
+}
+
+/// The value, where it stands in the expression or in the row.
+fn lent<'e, 'r>(
+    expr: &'e ResolvedExpr,
+    row: &RowView<'r>,
+    _rows: &[RowView<'_>],
+) -> Option<Operand<'e, 'r>>
+    ensures { IfSome result (λ v. spec.evaluated (map row_of _rows.now) expr.now (row_of row.now) ≡ Ok (spec.operand_value v)) }
+{
+    match expr {
+        ResolvedExpr::Literal(value) => Some(Operand::Literal(value)),
+        ResolvedExpr::Column(place) => match at(row.values, *place) {
+            Some(value) => Some(Operand::Column(value)),
+            None => None,
+        },
+        _ => None,
+    }
+}
+
+/// The value, not copied where it stands somewhere.
+#[cycle(evaluating)]
+fn operand_of<'e, 'r>(
+    alloc: Global,
+    expr: &'e ResolvedExpr,
+    row: &RowView<'r>,
+    rows: &[RowView<'_>],
+) -> Result<Operand<'e, 'r>, EvalError>
+    ensures { spec.IsOperand (spec.evaluated (map row_of rows.now) expr.now (row_of row.now)) result }
+{
+    match lent(expr, row, rows) {
+        Some(operand) => Ok(operand),
+        None => match evaluate(alloc, expr, row, rows) {
+            Ok(value) => Ok(Operand::Made(value)),
+            Err(e) => Err(e),
+        },
+    }
+}
+
+/// The aggregate over the rows in their order.
+#[cycle(evaluating)]
+fn over(
+    alloc: Global,
+    op: AggregateOp,
+    operand: &ResolvedExpr,
+    rows: &[RowView<'_>],
+) -> Result<Value, EvalError>
+    ensures { Answers (aggregates.over op (spec.evaluated (map row_of rows.now) operand.now) (aggregates.start op) (map row_of rows.now)) result }
+{
+    let mut so_far = start(op);
+    for row in rows {
+        let value = evaluate(alloc, operand, row, rows)?;
+        so_far = one_more(op, so_far, value)?;
+    }
+    Ok(so_far)
+}
+
+/// The values from left to right, or the first error.
+#[cycle(evaluating)]
+fn all_evaluated(
+    alloc: Global,
+    exprs: &[ResolvedExpr],
+    row: &RowView<'_>,
+    rows: &[RowView<'_>],
+) -> Result<Items<Value>, EvalError>
+    ensures { Answers (spec.all_evaluated (map row_of rows.now) exprs.now (row_of row.now)) result }
+{
+    let mut found = Items::new(alloc);
+    for expr in exprs {
+        found.push(evaluate(alloc, expr, row, rows)?)?;
+    }
+    Ok(found)
+}
+
+/// The value over a row, with the rows that aggregates are over.
+#[cycle(evaluating)]
+pub fn evaluate(
+    alloc: Global,
+    expr: &ResolvedExpr,
+    row: &RowView<'_>,
+    rows: &[RowView<'_>],
+) -> Result<Value, EvalError>
+    ensures { Answers (spec.evaluated (map row_of rows.now) expr.now (row_of row.now)) result }
+{
+    match expr {
+        ResolvedExpr::Literal(value) => copied(alloc, value),
+        ResolvedExpr::Column(place) => column(alloc, row, *place),
+        ResolvedExpr::Error(error) => says(alloc, error),
+        ResolvedExpr::Unary { op, operand } => {
+            let a = operand_of(alloc, operand.get(), row, rows)?;
+            unary(alloc, *op, a.get())
+        }
+        ResolvedExpr::Binary { op, left, right } => {
+            let a = operand_of(alloc, left.get(), row, rows)?;
+            let b = operand_of(alloc, right.get(), row, rows)?;
+            binary(alloc, *op, a.get(), b.get())
+        }
+        ResolvedExpr::InList { left, list } => {
+            let a = operand_of(alloc, left.get(), row, rows)?;
+            let list = all_evaluated(alloc, list.as_slice(), row, rows)?;
+            Ok(in_list(a.get(), list.as_slice()))
+        }
+        ResolvedExpr::Between { operand, low, high } => {
+            let a = operand_of(alloc, operand.get(), row, rows)?;
+            let low = operand_of(alloc, low.get(), row, rows)?;
+            let high = operand_of(alloc, high.get(), row, rows)?;
+            Ok(between(a.get(), low.get(), high.get()))
+        }
+        ResolvedExpr::Coalesce(list) => {
+            let list = all_evaluated(alloc, list.as_slice(), row, rows)?;
+            made(first_non_null(alloc, list.as_slice()))
+        }
+        ResolvedExpr::CountAll => given(count(rows.len())),
+        ResolvedExpr::Aggregate { op, operand } => over(alloc, *op, operand.get(), rows),
+    }
+}

@@ -1,0 +1,79 @@
+//! Three-valued logic.
+
+ghost use Rattle.std.specs.Prelude.{◌≡◌};
+ghost use Rattle.rq_eval.specs.Operators as spec;
+
+use crate::error::StmtError;
+use rq_values::Value;
+
+pub fn truth(b: Option<bool>) -> Value
+    ensures { result ≡ spec.truth b }
+{
+    match b {
+        None => Value::Null,
+        Some(true) => Value::Int(1),
+        Some(false) => Value::Int(0),
+    }
+}
+
+fn condition(value: &Value) -> Result<Option<bool>, StmtError>
+    ensures { result ≡ spec.condition value.now }
+{
+    match value {
+        Value::Null => Ok(None),
+        Value::Int(n) => Ok(Some(*n != 0)),
+        Value::Text(_) => Err(StmtError::NotCondition),
+        Value::Blob(_) => Err(StmtError::NotCondition),
+    }
+}
+
+pub fn or3(a: Option<bool>, b: Option<bool>) -> Option<bool>
+    ensures { result ≡ spec.or3 a b }
+{
+    match (a, b) {
+        (Some(true), _) => Some(true),
+        (Some(false), b) => b,
+        (None, Some(true)) => Some(true),
+        (None, _) => None,
+    }
+}
+
+fn not3(a: Option<bool>) -> Option<bool>
+    ensures { result ≡ spec.not3 a }
+{
+    match a {
+        Some(a) => Some(!a),
+        None => None,
+    }
+}
+
+pub fn and3(a: Option<bool>, b: Option<bool>) -> Option<bool>
+    ensures { result ≡ spec.and3 a b }
+{
+    not3(or3(not3(a), not3(b)))
+}
+
+/// OR. Both operands are judged.
+pub fn logical_or(a: &Value, b: &Value) -> Result<Value, StmtError>
+    ensures { result ≡ spec.logical spec.or3 a.now b.now }
+{
+    let a = condition(a)?;
+    let b = condition(b)?;
+    Ok(truth(or3(a, b)))
+}
+
+/// AND. Both operands are judged.
+pub fn logical_and(a: &Value, b: &Value) -> Result<Value, StmtError>
+    ensures { result ≡ spec.logical spec.and3 a.now b.now }
+{
+    let a = condition(a)?;
+    let b = condition(b)?;
+    Ok(truth(and3(a, b)))
+}
+
+/// NOT
+pub fn logical_not(a: &Value) -> Result<Value, StmtError>
+    ensures { result ≡ spec.logical_not a.now }
+{
+    Ok(truth(not3(condition(a)?)))
+}

@@ -1,0 +1,257 @@
+//! Names become places and calls operators, once for a statement. The recursion is as deep as the expression: what is read has at
+//! most 100 levels, and settling makes none deeper.
+
+ghost use Rattle.std.specs.Prelude.{◌≡◌, IfOk, map};
+ghost use Rattle.rq_eval.specs.Functions.{function_of};
+ghost use Rattle.rq_eval.specs.Names as names;
+ghost use Rattle.rq_eval.specs.Resolved as spec;
+
+use crate::functions::{function_of, takes};
+use crate::naming::{find_column, find_qualified_column};
+use crate::resolved::{Function, ResolveError, ResolvedExpr, UnaryOp};
+use crate::row::Scope;
+use rq_grammar::Expr;
+use rq_values::{NoMemory, Text, TryCopy, Value};
+use sqlite_items::{Boxed, Items};
+use std::alloc::Global;
+
+fn column_at(place: usize, aggregates: bool) -> ResolvedExpr
+    ensures { result ≡ spec.column_at place aggregates }
+{
+    if aggregates {
+        ResolvedExpr::Error(ResolveError::MisuseOfAggregate)
+    } else {
+        ResolvedExpr::Column(place)
+    }
+}
+
+fn column(
+    alloc: Global,
+    scope: &Scope,
+    name: &Text,
+    aggregates: bool,
+) -> Result<ResolvedExpr, NoMemory>
+    ensures { IfOk result (λ p. p ≡ spec.column_or (names.place scope.now name.now) (spec.no_column name.now) aggregates) }
+{
+    match find_column(scope, name) {
+        Some(place) => Ok(column_at(place, aggregates)),
+        None => Ok(ResolvedExpr::Error(ResolveError::NoColumn(name.copy(alloc)?))),
+    }
+}
+
+fn qualified_column(
+    alloc: Global,
+    scope: &Scope,
+    table: &Text,
+    name: &Text,
+    aggregates: bool,
+) -> Result<ResolvedExpr, NoMemory>
+    ensures { IfOk result (λ p. p ≡ spec.column_or (names.qualified_place scope.now table.now name.now) (spec.no_qualified_column table.now name.now) aggregates) }
+{
+    match find_qualified_column(scope, table, name) {
+        Some(place) => Ok(column_at(place, aggregates)),
+        None => {
+            let table = table.copy(alloc)?;
+            let column = name.copy(alloc)?;
+            Ok(ResolvedExpr::Error(ResolveError::NoQualifiedColumn { table, column }))
+        }
+    }
+}
+
+fn count_all(aggregates: bool) -> ResolvedExpr
+    ensures { result ≡ spec.count_all aggregates }
+{
+    if aggregates {
+        ResolvedExpr::CountAll
+    } else {
+        ResolvedExpr::Error(ResolveError::MisuseOfAggregate)
+    }
+}
+
+fn negated_if(alloc: Global, negated: bool, expr: ResolvedExpr) -> Result<ResolvedExpr, NoMemory>
+    ensures { IfOk result (λ p. p ≡ spec.negated_if negated expr) }
+{
+    if negated {
+        let operand = Boxed::new(alloc, expr)?;
+        Ok(ResolvedExpr::Unary {
+            op: UnaryOp::Not,
+            operand,
+        })
+    } else {
+        Ok(expr)
+    }
+}
+
+#[cycle(resolving)]
+fn boxed(
+    alloc: Global,
+    scope: &Scope,
+    expr: &Expr,
+    aggregates: bool,
+) -> Result<Boxed<ResolvedExpr>, NoMemory>
+    ensures { IfOk result (λ p. p ≡ spec.resolved scope.now expr.now aggregates) }
+{
+    let resolved = resolve(alloc, scope, expr, aggregates)?;
+    Ok(Boxed::new(alloc, resolved)?)
+}
+
+#[cycle(resolving)]
+fn all_resolved(
+    alloc: Global,
+    scope: &Scope,
+    exprs: &[Expr],
+    aggregates: bool,
+) -> Result<Items<ResolvedExpr>, NoMemory>
+    ensures { IfOk result (λ ps. ps ≡ spec.all_resolved scope.now exprs.now aggregates) }
+{
+    let mut found = Items::new(alloc);
+    for expr in exprs {
+        found.push(resolve(alloc, scope, expr, aggregates)?)?;
+    }
+    Ok(found)
+}
+
+#[cycle(resolving)]
+fn sole_argument(
+    alloc: Global,
+    scope: &Scope,
+    args: &[Expr],
+    aggregates: bool,
+) -> Result<Boxed<ResolvedExpr>, NoMemory>
+    ensures { IfOk result (λ p. p ≡ spec.sole_argument (map (spec.resolved scope.now) args.now) aggregates) }
+{
+    match args.first() {
+        Some(arg) => boxed(alloc, scope, arg, aggregates),
+        None => Ok(Boxed::new(alloc, ResolvedExpr::Literal(Value::Null))?),
+    }
+}
+
+#[cycle(resolving)]
+fn applied_to(
+    alloc: Global,
+    scope: &Scope,
+    function: Function,
+    args: &[Expr],
+    aggregates: bool,
+) -> Result<ResolvedExpr, NoMemory>
+    ensures { IfOk result (λ p. p ≡ spec.applied_to function (map (spec.resolved scope.now) args.now) aggregates) }
+{
+    match function {
+        Function::Unary(op) => {
+            let operand = sole_argument(alloc, scope, args, aggregates)?;
+            Ok(ResolvedExpr::Unary { op, operand })
+        }
+        Function::Coalesce => Ok(ResolvedExpr::Coalesce(all_resolved(
+            alloc, scope, args, aggregates,
+        )?)),
+        Function::IfNull => Ok(ResolvedExpr::Coalesce(all_resolved(
+            alloc, scope, args, aggregates,
+        )?)),
+        Function::Aggregate(op) => {
+            if aggregates {
+                let operand = sole_argument(alloc, scope, args, false)?;
+                Ok(ResolvedExpr::Aggregate { op, operand })
+            } else {
+                Ok(ResolvedExpr::Error(ResolveError::MisuseOfAggregate))
+            }
+        }
+        Function::Random => Ok(ResolvedExpr::Literal(Value::Null)),
+        Function::RandomBlob => Ok(ResolvedExpr::Literal(Value::Null)),
+    }
+}
+
+#[cycle(resolving)]
+fn call(
+    alloc: Global,
+    scope: &Scope,
+    name: &Text,
+    args: &[Expr],
+    aggregates: bool,
+) -> Result<ResolvedExpr, NoMemory>
+    ensures { IfOk result (λ p. p ≡ spec.call_of name.now (function_of name.now) (map (spec.resolved scope.now) args.now) aggregates) }
+{
+    match function_of(name.bytes()) {
+        Some(function) => {
+            if takes(function, args.len()) {
+                applied_to(alloc, scope, function, args, aggregates)
+            } else {
+                Ok(ResolvedExpr::Error(ResolveError::WrongArguments(name.copy(alloc)?)))
+            }
+        }
+        None => Ok(ResolvedExpr::Error(ResolveError::NoFunction(name.copy(alloc)?))),
+    }
+}
+
+#[cycle(resolving)]
+fn unary(
+    alloc: Global,
+    scope: &Scope,
+    op: UnaryOp,
+    operand: &Expr,
+    aggregates: bool,
+) -> Result<ResolvedExpr, NoMemory>
+    ensures { IfOk result (λ p. p ≡ spec.unary_of op (spec.resolved scope.now operand.now aggregates)) }
+{
+    let operand = boxed(alloc, scope, operand, aggregates)?;
+    Ok(ResolvedExpr::Unary { op, operand })
+}
+
+/// The expression with places for its names and operators for its calls. `aggregates` says that it stands where aggregates may.
+#[cycle(resolving)]
+pub fn resolve(
+    alloc: Global,
+    scope: &Scope,
+    expr: &Expr,
+    aggregates: bool,
+) -> Result<ResolvedExpr, NoMemory>
+    ensures { IfOk result (λ p. p ≡ spec.resolved scope.now expr.now aggregates) }
+{
+    match expr {
+        Expr::Literal(value) => Ok(ResolvedExpr::Literal(value.copy(alloc)?)),
+        Expr::Param(_) | Expr::CurrentTimestamp | Expr::CurrentDate | Expr::CurrentTime => {
+            Ok(ResolvedExpr::Literal(Value::Null))
+        }
+        Expr::Name(name) => column(alloc, scope, name, aggregates),
+        Expr::Qualified {
+            table,
+            column: name,
+        } => qualified_column(alloc, scope, table, name, aggregates),
+        Expr::CountAll => Ok(count_all(aggregates)),
+        Expr::Call { name, args } => call(alloc, scope, name, args.as_slice(), aggregates),
+        Expr::Minus(operand) => unary(alloc, scope, UnaryOp::Minus, operand.get(), aggregates),
+        Expr::Not(operand) => unary(alloc, scope, UnaryOp::Not, operand.get(), aggregates),
+        Expr::Binary { op, left, right } => {
+            let left = boxed(alloc, scope, left.get(), aggregates)?;
+            let right = boxed(alloc, scope, right.get(), aggregates)?;
+            Ok(ResolvedExpr::Binary {
+                op: *op,
+                left,
+                right,
+            })
+        }
+        Expr::InList {
+            negated,
+            left,
+            list,
+        } => {
+            let left = boxed(alloc, scope, left.get(), aggregates)?;
+            let list = all_resolved(alloc, scope, list.as_slice(), aggregates)?;
+            negated_if(alloc, *negated, ResolvedExpr::InList { left, list })
+        }
+        Expr::Between {
+            negated,
+            left,
+            low,
+            high,
+        } => {
+            let operand = boxed(alloc, scope, left.get(), aggregates)?;
+            let low = boxed(alloc, scope, low.get(), aggregates)?;
+            let high = boxed(alloc, scope, high.get(), aggregates)?;
+            negated_if(
+                alloc,
+                *negated,
+                ResolvedExpr::Between { operand, low, high },
+            )
+        }
+    }
+}

@@ -1,0 +1,236 @@
+//! Texts: `||`, LIKE, and the functions over texts.
+
+ghost use Rattle.std.specs.Prelude.{◌≡◌, ◌<◌, Ok, ◌++◌, true, flat_map, IfOk, OnOk, pos, length};
+ghost use Rattle.std.specs.Fmt.{signed_decimal};
+ghost use Rattle.std.specs.Str.{chars};
+ghost use Rattle.rq_values.specs.declared.value.Value.TheVariants as values;
+ghost use Rattle.rq_values.specs.Text.{is_plain};
+ghost use Rattle.rq_eval.specs.Outcome as outcome;
+ghost use Rattle.rq_eval.specs.Operators as spec;
+ghost use Rattle.rq_eval.specs.Texts as texts;
+
+use crate::comparing::{either_null, is_null};
+use crate::error::{EvalError, StmtError};
+use crate::like::is_like;
+use crate::logic::truth;
+use rq_values::{NoMemory, Text, TryCopy, Value};
+use std::alloc::Global;
+
+/// A text, or an integer as its decimal text.
+fn spelled(alloc: Global, value: &Value) -> Result<Text, EvalError>
+    ensures { outcome.Answers (texts.spelled value.now) result }
+{
+    match value {
+        Value::Null => Err(EvalError::Says(StmtError::NotText)),
+        Value::Int(number) => Ok(Text::of_integer(alloc, *number)?),
+        Value::Text(text) => Ok(text.copy(alloc)?),
+        Value::Blob(_) => Err(EvalError::Says(StmtError::NotText)),
+    }
+}
+
+/// What was made, as a value.
+pub fn text_value(text: Result<Text, NoMemory>) -> Result<Value, EvalError>
+    ensures { outcome.IsMadeText text result }
+{
+    match text {
+        Ok(text) => Ok(Value::Text(text)),
+        Err(_) => Err(EvalError::NoMemory),
+    }
+}
+
+/// `||`
+pub fn concatenate(alloc: Global, a: &Value, b: &Value) -> Result<Value, EvalError>
+    ensures { outcome.Answers (texts.on_texts texts.concatenated a.now b.now) result }
+{
+    if either_null(a, b) {
+        return Ok(Value::Null);
+    }
+    let s = spelled(alloc, a)?;
+    match spelled(alloc, b) {
+        Ok(t) => text_value(s.joined(alloc, &t)),
+        Err(e) => {
+            drop(s);
+            Err(e)
+        }
+    }
+}
+
+/// The characters of a text.
+#[tactic(auto, using(std::proofs::lemmas::Str::chars_from_encodes))]
+fn characters(alloc: Global, text: &str) -> Result<Vec<char>, NoMemory>
+    ensures { IfOk result (λ found. found.items ≡ chars text.now) }
+{
+    Ok(text.chars().collect(alloc)?)
+}
+
+fn like_texts(alloc: Global, text: &Text, pattern: &Text) -> Result<Value, EvalError>
+    ensures { outcome.Answers (Ok (texts.like_value text.now pattern.now)) result }
+{
+    let text = characters(alloc, text.as_str())?;
+    match characters(alloc, pattern.as_str()) {
+        Ok(pattern) => Ok(truth(Some(is_like(&pattern, &text)))),
+        Err(_) => {
+            drop(text);
+            Err(EvalError::NoMemory)
+        }
+    }
+}
+
+/// LIKE of what isn't two texts.
+fn like_spelled(alloc: Global, a: &Value, b: &Value) -> Result<Value, EvalError>
+    ensures { outcome.Answers (texts.on_texts texts.like_value a.now b.now) result }
+{
+    if either_null(a, b) {
+        return Ok(Value::Null);
+    }
+    let s = spelled(alloc, a)?;
+    match spelled(alloc, b) {
+        Ok(t) => like_texts(alloc, &s, &t),
+        Err(e) => {
+            drop(s);
+            Err(e)
+        }
+    }
+}
+
+/// LIKE
+pub fn like(alloc: Global, a: &Value, b: &Value) -> Result<Value, EvalError>
+    ensures { outcome.Answers (texts.on_texts texts.like_value a.now b.now) result }
+{
+    match (a, b) {
+        (Value::Text(s), Value::Text(t)) => like_texts(alloc, s, t),
+        _ => like_spelled(alloc, a, b),
+    }
+}
+
+/// LOWER
+pub fn lower(alloc: Global, a: &Value) -> Result<Value, EvalError>
+    ensures { outcome.Answers (texts.on_text texts.lower a.now) result }
+{
+    if is_null(a) {
+        return Ok(Value::Null);
+    }
+    let s = spelled(alloc, a)?;
+    text_value(s.lower(alloc))
+}
+
+/// UPPER
+pub fn upper(alloc: Global, a: &Value) -> Result<Value, EvalError>
+    ensures { outcome.Answers (texts.on_text texts.upper a.now) result }
+{
+    if is_null(a) {
+        return Ok(Value::Null);
+    }
+    let s = spelled(alloc, a)?;
+    text_value(s.upper(alloc))
+}
+
+/// A number of things as an integer.
+pub fn count(n: usize) -> Result<Value, StmtError>
+    ensures { result ≡ spec.in_range (pos n) }
+{
+    match i64::try_from(n) {
+        Ok(n) => Ok(Value::Int(n)),
+        Err(_) => Err(StmtError::IntegerOverflow),
+    }
+}
+
+#[tactic(auto, using(std::proofs::lemmas::Str::chars_from_encodes))]
+fn character_count(text: &str) -> usize
+    ensures { result ≡ length (chars text.now) }
+{
+    text.chars().count()
+}
+
+fn digit_count(number: i64) -> usize
+    ensures { result ≡ length (signed_decimal number) }
+{
+    let mut buffer = itoa::Buffer::new();
+    buffer.format(number).len()
+}
+
+/// LENGTH
+pub fn length(a: &Value) -> Result<Value, StmtError>
+    ensures { result ≡ texts.length_of a.now }
+{
+    match a {
+        Value::Null => Ok(Value::Null),
+        Value::Int(number) => count(digit_count(*number)),
+        Value::Text(text) => count(character_count(text.as_str())),
+        Value::Blob(bytes) => count(bytes.bytes().len()),
+    }
+}
+
+fn hex_digit(digit: u8) -> u8
+    requires { digit < 16 }
+    ensures { result ≡ texts.hex_digit digit }
+{
+    if digit < 10 { 48 + digit } else { 55 + digit }
+}
+
+#[tactic(auto, using(crate::proofs::Hex::hex_byte_plain))]
+fn put_byte(digits: &mut Text, byte: u8) -> Result<(), NoMemory>
+    ensures { OnOk result (digits.new ≡ digits.old ++ texts.hex_byte byte) }
+{
+    digits.push_plain(&[hex_digit(byte / 16), hex_digit(byte % 16)])
+}
+
+fn hex_text(alloc: Global, bytes: &[u8]) -> Result<Text, NoMemory>
+    ensures { IfOk result (λ text. text ≡ flat_map texts.hex_byte bytes.now) }
+{
+    let mut digits = Text::empty(alloc);
+    for byte in bytes {
+        put_byte(&mut digits, *byte)?;
+    }
+    Ok(digits)
+}
+
+/// HEX
+pub fn hex(alloc: Global, a: &Value) -> Result<Value, NoMemory>
+    ensures { IfOk result (λ v. v ≡ texts.hex a.now) }
+{
+    let text = match a {
+        Value::Null => Text::empty(alloc),
+        Value::Int(number) => {
+            let mut buffer = itoa::Buffer::new();
+            hex_text(alloc, buffer.format(*number).as_bytes())?
+        }
+        Value::Text(text) => hex_text(alloc, text.bytes())?,
+        Value::Blob(bytes) => hex_text(alloc, bytes.bytes())?,
+    };
+    Ok(Value::Text(text))
+}
+
+fn kind(a: &Value) -> &'static [u8]
+    ensures kind { result.now ≡ texts.kind_of a.now }
+    ensures plain { is_plain result.now ≡ true }
+{
+    match a {
+        Value::Null => b"null",
+        Value::Int(_) => b"integer",
+        Value::Text(_) => b"text",
+        Value::Blob(_) => b"blob",
+    }
+}
+
+/// A text of these words.
+pub fn plain_text(alloc: Global, plain: &[u8]) -> Result<Text, NoMemory>
+    requires { is_plain plain.now ≡ true }
+    ensures { IfOk result (λ text. text ≡ plain.now) }
+{
+    let mut text = Text::empty(alloc);
+    match text.push_plain(plain) {
+        Ok(()) => Ok(text),
+        Err(e) => {
+            drop(text);
+            Err(e)
+        }
+    }
+}
+
+/// TYPEOF
+pub fn type_of(alloc: Global, a: &Value) -> Result<Value, EvalError>
+    ensures { outcome.Answers (Ok (texts.type_of a.now)) result }
+{
+    text_value(plain_text(alloc, kind(a)))
+}
