@@ -22,7 +22,7 @@ use std::alloc::{AllocError, Global};
 const MAX_REQUESTS: u64 = 10_000;
 
 /// How a connection was served, with the number of the requests that were answered.
-#[derive(Clone, Copy, Debug, PartialEq, Eq)]
+#[derive(Clone, Copy, PartialEq, Eq)]
 pub enum Served {
     /// The input ended between two requests, or the connection ended after a request.
     Done(u64),
@@ -35,7 +35,7 @@ pub enum Served {
 }
 
 /// Why a connection wasn't served to its end.
-#[derive(Clone, Copy, Debug, PartialEq, Eq)]
+#[derive(Clone, Copy, PartialEq, Eq)]
 pub enum ServeError {
     Read,
     Write,
@@ -44,7 +44,7 @@ pub enum ServeError {
 }
 
 /// What a turn of a connection came to.
-#[derive(Clone, Copy, Debug, PartialEq, Eq)]
+#[derive(Clone, Copy)]
 enum Turn {
     On,
     End(Served),

@@ -21,7 +21,7 @@ pub const MAX_BODY: u64 = 1_048_576;
 const MAX_FIELDS: usize = 64;
 
 /// What a head says of the body.
-#[derive(Clone, Copy, Debug, PartialEq, Eq)]
+#[derive(Clone, Copy)]
 pub enum Framing {
     /// It isn't framed, or in a way that isn't taken.
     Bad,
@@ -32,7 +32,7 @@ pub enum Framing {
 }
 
 /// Why a head is refused.
-#[derive(Clone, Copy, Debug, PartialEq, Eq)]
+#[derive(Clone, Copy)]
 pub enum Refusal {
     BadHead,
     /// The body has so many bytes, more than a body may have.
@@ -40,7 +40,7 @@ pub enum Refusal {
 }
 
 /// A head that was read.
-#[derive(Clone, Copy, Debug, PartialEq, Eq)]
+#[derive(Clone, Copy)]
 pub struct ReadHead {
     pub method: Span,
     pub target: Span,

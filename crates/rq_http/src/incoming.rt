@@ -19,14 +19,14 @@ use rq_outside::Source;
 pub const MAX_HEAD: usize = 16_384;
 
 /// Why no bytes came.
-#[derive(Clone, Copy, Debug, PartialEq, Eq)]
+#[derive(Clone, Copy)]
 pub enum ReadError {
     Failed,
     NoMemory,
 }
 
 /// A request whose bytes are held, and where its parts are.
-#[derive(Clone, Copy, Debug, PartialEq, Eq)]
+#[derive(Clone, Copy)]
 pub struct Asked {
     pub method: Span,
     pub target: Span,
@@ -36,7 +36,7 @@ pub struct Asked {
 }
 
 /// What a connection's bytes bring next.
-#[derive(Clone, Copy, Debug, PartialEq, Eq)]
+#[derive(Clone, Copy)]
 pub enum Next {
     Request(Asked),
     Refused(Refusal),

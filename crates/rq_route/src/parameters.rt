@@ -12,7 +12,7 @@ use std::alloc::Global;
 pub const DEFAULT_TIMEOUT: u64 = 10_000;
 
 /// How fresh the answer to a read is to be.
-#[derive(Clone, Copy, Debug, PartialEq, Eq, Drop)]
+#[derive(Clone, Copy, Drop)]
 pub enum Level {
     /// `none`: of the node's own database.
     Local,
@@ -21,7 +21,7 @@ pub enum Level {
 }
 
 /// A parameter.
-#[derive(Clone, Copy, Debug, PartialEq, Eq, Drop)]
+#[derive(Clone, Copy, Drop)]
 pub enum Key {
     Level,
     Freshness,
@@ -137,11 +137,11 @@ pub fn find_given(alloc: Global, asks: bool, query: &[u8]) -> Result<Given, NoMe
         timeout: find_timeout(alloc, query)?,
         queue: is_on(alloc, query, "queue")?,
         wait: is_on(alloc, query, "wait")?,
-        asks,
-        statement: statement_if(alloc, asks, query)?,
         transaction: is_on(alloc, query, "transaction")?,
         associative: is_on(alloc, query, "associative")?,
         pretty: is_on(alloc, query, "pretty")?,
+        asks,
+        statement: statement_if(alloc, asks, query)?,
     })
 }
 

@@ -10,7 +10,7 @@ use rq_values::NoMemory;
 use std::alloc::Global;
 
 /// A path that is served.
-#[derive(Clone, Copy, Debug, PartialEq, Eq, Drop)]
+#[derive(Clone, Copy, PartialEq, Eq, Drop)]
 pub enum Path {
     /// `/db/execute`
     Execute,

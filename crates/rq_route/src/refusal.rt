@@ -8,7 +8,7 @@ use rq_values::NoMemory;
 use std::alloc::Global;
 
 /// Why a request is refused, in the order in which this is looked at.
-#[derive(Clone, Copy, Debug, PartialEq, Eq, Drop)]
+#[derive(Clone, Copy, Drop)]
 pub enum Refusal {
     /// No such path is served.
     NoPath,

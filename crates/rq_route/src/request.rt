@@ -7,7 +7,7 @@ use crate::path::Path;
 use rq_values::Text;
 
 /// How a reply is to be written.
-#[derive(Clone, Copy, Debug, PartialEq, Eq, Drop)]
+#[derive(Clone, Copy, Drop)]
 pub struct Shape {
     /// Rows as objects, and else as lists.
     pub associative: bool,
@@ -16,7 +16,7 @@ pub struct Shape {
 }
 
 /// What a request asks for, without its body. A parameter that its path doesn't list has no effect.
-#[derive(Debug, Drop)]
+#[derive(Drop)]
 pub struct Request {
     pub path: Path,
     /// The statement that a GET names, in place of a body.

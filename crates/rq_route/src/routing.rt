@@ -14,7 +14,7 @@ use std::alloc::Global;
 const MAX_BODY: usize = 1_048_576;
 
 /// What becomes of a request.
-#[derive(Debug, Drop)]
+#[derive(Drop)]
 pub enum Routed {
     Taken(Request),
     Refused(Refusal),
