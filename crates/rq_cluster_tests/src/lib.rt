@@ -4,6 +4,8 @@
 #[cfg(test)]
 mod calling;
 #[cfg(test)]
+mod examples;
+#[cfg(test)]
 mod lines;
 #[cfg(test)]
 mod order;

@@ -63,7 +63,7 @@ fn faulty<'a>(
 }
 
 /// Words, a script, a status and what is written.
-type Plain = (&'static [&'static [u8]], &'static [u8], u8, &'static [u8]);
+pub(crate) type Plain = (&'static [&'static [u8]], &'static [u8], u8, &'static [u8]);
 
 /// A script, the numbers of the reads and writes that fail, a status and what is written.
 type Faulty = (
@@ -75,7 +75,7 @@ type Faulty = (
 );
 
 // The place of the first that isn't as it must be.
-fn first_wrong(alloc: Global, rows: &[Plain]) -> Result<Option<usize>, Fail> {
+pub(crate) fn first_wrong(alloc: Global, rows: &[Plain]) -> Result<Option<usize>, Fail> {
     for (place, (words, script, status, text)) in rows.iter().enumerate() {
         if !is_right(alloc, &plain(words, script, *status, text))? {
             return Ok(Some(place));
