@@ -52,31 +52,52 @@ fn copy_expr(alloc: Global, expr: &Expr) -> Result<Expr, NoMemory>
     ensures { IfOk result (λ copy. copy ≡ expr.now) }
 {
     match expr {
-        Expr::Literal(value) => Ok(Expr::Literal(value.copy(alloc)?)),
-        Expr::Param(name) => Ok(Expr::Param(name.copy(alloc)?)),
-        Expr::Name(name) => Ok(Expr::Name(name.copy(alloc)?)),
+        Expr::Literal(value) => match value.copy(alloc) {
+            Ok(value) => Ok(Expr::Literal(value)),
+            Err(error) => Err(error),
+        },
+        Expr::Param(name) => match name.copy(alloc) {
+            Ok(name) => Ok(Expr::Param(name)),
+            Err(error) => Err(error),
+        },
+        Expr::Name(name) => match name.copy(alloc) {
+            Ok(name) => Ok(Expr::Name(name)),
+            Err(error) => Err(error),
+        },
         Expr::Qualified { table, column } => {
-            let (table, column) = both(table.copy(alloc), column.copy(alloc))?;
-            Ok(Expr::Qualified { table, column })
+            match both(table.copy(alloc), column.copy(alloc)) {
+                Ok((table, column)) => Ok(Expr::Qualified { table, column }),
+                Err(error) => Err(error),
+            }
         }
         Expr::CurrentTimestamp => Ok(Expr::CurrentTimestamp),
         Expr::CurrentDate => Ok(Expr::CurrentDate),
         Expr::CurrentTime => Ok(Expr::CurrentTime),
         Expr::CountAll => Ok(Expr::CountAll),
         Expr::Call { name, args } => {
-            let (name, args) = both(name.copy(alloc), copy_list(alloc, args.as_slice()))?;
-            Ok(Expr::Call { name, args })
+            match both(name.copy(alloc), copy_list(alloc, args.as_slice())) {
+                Ok((name, args)) => Ok(Expr::Call { name, args }),
+                Err(error) => Err(error),
+            }
         }
-        Expr::Minus(operand) => Ok(Expr::Minus(copy_boxed(alloc, operand.get())?)),
-        Expr::Not(operand) => Ok(Expr::Not(copy_boxed(alloc, operand.get())?)),
+        Expr::Minus(operand) => match copy_boxed(alloc, operand.get()) {
+            Ok(operand) => Ok(Expr::Minus(operand)),
+            Err(error) => Err(error),
+        },
+        Expr::Not(operand) => match copy_boxed(alloc, operand.get()) {
+            Ok(operand) => Ok(Expr::Not(operand)),
+            Err(error) => Err(error),
+        },
         Expr::Binary { op, left, right } => {
             let left = copy_boxed(alloc, left.get());
-            let (left, right) = both(left, copy_boxed(alloc, right.get()))?;
-            Ok(Expr::Binary {
-                op: *op,
-                left,
-                right,
-            })
+            match both(left, copy_boxed(alloc, right.get())) {
+                Ok((left, right)) => Ok(Expr::Binary {
+                    op: *op,
+                    left,
+                    right,
+                }),
+                Err(error) => Err(error),
+            }
         }
         Expr::InList {
             negated,
@@ -84,12 +105,14 @@ fn copy_expr(alloc: Global, expr: &Expr) -> Result<Expr, NoMemory>
             list,
         } => {
             let left = copy_boxed(alloc, left.get());
-            let (left, list) = both(left, copy_list(alloc, list.as_slice()))?;
-            Ok(Expr::InList {
-                negated: *negated,
-                left,
-                list,
-            })
+            match both(left, copy_list(alloc, list.as_slice())) {
+                Ok((left, list)) => Ok(Expr::InList {
+                    negated: *negated,
+                    left,
+                    list,
+                }),
+                Err(error) => Err(error),
+            }
         }
         Expr::Between {
             negated,
@@ -98,13 +121,15 @@ fn copy_expr(alloc: Global, expr: &Expr) -> Result<Expr, NoMemory>
             high,
         } => {
             let halves = both(copy_boxed(alloc, left.get()), copy_boxed(alloc, low.get()));
-            let ((left, low), high) = both(halves, copy_boxed(alloc, high.get()))?;
-            Ok(Expr::Between {
-                negated: *negated,
-                left,
-                low,
-                high,
-            })
+            match both(halves, copy_boxed(alloc, high.get())) {
+                Ok(((left, low), high)) => Ok(Expr::Between {
+                    negated: *negated,
+                    left,
+                    low,
+                    high,
+                }),
+                Err(error) => Err(error),
+            }
         }
     }
 }
@@ -137,8 +162,10 @@ impl TryCopy for ResultItem {
         match self {
             ResultItem::All => Ok(ResultItem::All),
             ResultItem::Value { expr, alias } => {
-                let (expr, alias) = both(expr.copy(alloc), alias.copy(alloc))?;
-                Ok(ResultItem::Value { expr, alias })
+                match both(expr.copy(alloc), alias.copy(alloc)) {
+                    Ok((expr, alias)) => Ok(ResultItem::Value { expr, alias }),
+                    Err(error) => Err(error),
+                }
             }
         }
     }
@@ -161,17 +188,17 @@ impl TryCopy for SelectStmt {
         );
         let source = both(self.table.copy(alloc), self.filter.copy(alloc));
         let ends = both(self.limit.copy(alloc), self.offset.copy(alloc));
-        let ((lists, source), (limit, offset)) = both(both(lists, source), ends)?;
-        let (results, order) = lists;
-        let (table, filter) = source;
-        Ok(SelectStmt {
-            results,
-            table,
-            filter,
-            order,
-            limit,
-            offset,
-        })
+        match both(both(lists, source), ends) {
+            Ok((((results, order), (table, filter)), (limit, offset))) => Ok(SelectStmt {
+                results,
+                table,
+                filter,
+                order,
+                limit,
+                offset,
+            }),
+            Err(error) => Err(error),
+        }
     }
 }
 
@@ -248,29 +275,36 @@ impl TryCopy for Stmt {
                 columns,
             } => {
                 let columns = copies(alloc, columns.as_slice());
-                let (table, columns) = both(table.copy(alloc), columns)?;
-                Ok(Stmt::Create {
-                    if_not_exists: *if_not_exists,
-                    table,
-                    columns,
-                })
+                match both(table.copy(alloc), columns) {
+                    Ok((table, columns)) => Ok(Stmt::Create {
+                        if_not_exists: *if_not_exists,
+                        table,
+                        columns,
+                    }),
+                    Err(error) => Err(error),
+                }
             }
-            Stmt::Drop { if_exists, table } => Ok(Stmt::Drop {
-                if_exists: *if_exists,
-                table: table.copy(alloc)?,
-            }),
+            Stmt::Drop { if_exists, table } => match table.copy(alloc) {
+                Ok(table) => Ok(Stmt::Drop {
+                    if_exists: *if_exists,
+                    table,
+                }),
+                Err(error) => Err(error),
+            },
             Stmt::Insert {
                 table,
                 columns,
                 rows,
             } => {
                 let target = both(table.copy(alloc), copy_names(alloc, columns));
-                let ((table, columns), rows) = both(target, rows.copy(alloc))?;
-                Ok(Stmt::Insert {
-                    table,
-                    columns,
-                    rows,
-                })
+                match both(target, rows.copy(alloc)) {
+                    Ok(((table, columns), rows)) => Ok(Stmt::Insert {
+                        table,
+                        columns,
+                        rows,
+                    }),
+                    Err(error) => Err(error),
+                }
             }
             Stmt::Update {
                 table,
@@ -278,18 +312,25 @@ impl TryCopy for Stmt {
                 filter,
             } => {
                 let target = both(table.copy(alloc), copy_sets(alloc, sets.as_slice()));
-                let ((table, sets), filter) = both(target, filter.copy(alloc))?;
-                Ok(Stmt::Update {
-                    table,
-                    sets,
-                    filter,
-                })
+                match both(target, filter.copy(alloc)) {
+                    Ok(((table, sets), filter)) => Ok(Stmt::Update {
+                        table,
+                        sets,
+                        filter,
+                    }),
+                    Err(error) => Err(error),
+                }
             }
             Stmt::Delete { table, filter } => {
-                let (table, filter) = both(table.copy(alloc), filter.copy(alloc))?;
-                Ok(Stmt::Delete { table, filter })
+                match both(table.copy(alloc), filter.copy(alloc)) {
+                    Ok((table, filter)) => Ok(Stmt::Delete { table, filter }),
+                    Err(error) => Err(error),
+                }
             }
-            Stmt::Select(select) => Ok(Stmt::Select(select.copy(alloc)?)),
+            Stmt::Select(select) => match select.copy(alloc) {
+                Ok(select) => Ok(Stmt::Select(select)),
+                Err(error) => Err(error),
+            },
         }
     }
 }

@@ -45,19 +45,12 @@ pub(crate) fn create_step(alloc: Global, place: CreatePlace, token: Token) -> St
     }
 }
 
-/// At a place of a `CREATE`.
-fn create_at(alloc: Global, place: CreatePlace) -> Step
-    ensures { IfOk result (λ next. next ≡ spec.flat (p.Create place)) }
-{
-    at(alloc, Place::Create(place))
-}
-
 /// Behind `CREATE`.
 fn behind_create(alloc: Global, token: &Token) -> Step
     ensures { IfOk result (λ next. next ≡ spec.behind_create token.now) }
 {
     match token {
-        Token::Word(_, Word::Table) => create_at(alloc, CreatePlace::Table),
+        Token::Word(_, Word::Table) => at(alloc, Place::Create(CreatePlace::Table)),
         _ => Ok(None),
     }
 }
@@ -77,7 +70,7 @@ fn create_if(alloc: Global, token: Token) -> Step
     ensures { IfOk result (λ next. next ≡ spec.on_name (spec.name_of token) (λ n. p.Create (cp.If n))) }
 {
     match name_of(token) {
-        Some(name) => create_at(alloc, CreatePlace::If(name)),
+        Some(name) => at(alloc, Place::Create(CreatePlace::If(name))),
         None => Ok(None),
     }
 }
@@ -87,7 +80,10 @@ fn create_named(alloc: Global, if_not_exists: bool, token: Token) -> Step
     ensures { IfOk result (λ next. next ≡ spec.on_name (spec.name_of token) (λ n. p.Create (cp.Named if_not_exists n))) }
 {
     match name_of(token) {
-        Some(name) => create_at(alloc, CreatePlace::Named(if_not_exists, name)),
+        Some(name) => at(
+            alloc,
+            Place::Create(CreatePlace::Named(if_not_exists, name)),
+        ),
         None => Ok(None),
     }
 }
@@ -97,13 +93,13 @@ fn behind_create_named(alloc: Global, if_not_exists: bool, table: Text, token: &
     ensures { IfOk result (λ next. next ≡ spec.behind_create_named if_not_exists table token.now) }
 {
     match token {
-        Token::Open => create_at(
+        Token::Open => at(
             alloc,
-            CreatePlace::ColumnStart(NewTable {
+            Place::Create(CreatePlace::ColumnStart(NewTable {
                 if_not_exists,
                 table,
                 columns: Items::new(alloc),
-            }),
+            })),
         ),
         _ => {
             drop(table);
@@ -119,7 +115,7 @@ fn behind_create_if(alloc: Global, table: Text, token: &Token) -> Step
     match token {
         Token::Word(_, Word::Not) => {
             drop(table);
-            create_at(alloc, CreatePlace::IfNot)
+            at(alloc, Place::Create(CreatePlace::IfNot))
         }
         _ => behind_create_named(alloc, false, table, token),
     }
@@ -130,7 +126,7 @@ fn behind_create_if_not(alloc: Global, token: &Token) -> Step
     ensures { IfOk result (λ next. next ≡ spec.behind_create_if_not token.now) }
 {
     match token {
-        Token::Word(_, Word::Exists) => create_at(alloc, CreatePlace::IfNotExists),
+        Token::Word(_, Word::Exists) => at(alloc, Place::Create(CreatePlace::IfNotExists)),
         _ => Ok(None),
     }
 }
@@ -140,7 +136,7 @@ fn column_named(alloc: Global, table: NewTable, token: Token) -> Step
     ensures { IfOk result (λ next. next ≡ spec.on_name (spec.name_of token) (λ n. p.Create (cp.ColumnNamed table n))) }
 {
     match name_of(token) {
-        Some(name) => create_at(alloc, CreatePlace::ColumnNamed(table, name)),
+        Some(name) => at(alloc, Place::Create(CreatePlace::ColumnNamed(table, name))),
         None => {
             drop(table);
             Ok(None)
@@ -159,7 +155,7 @@ fn column_of(alloc: Global, table: NewTable, name: Text, kind: ColumnKind) -> St
         not_null: false,
         unique: false,
     };
-    create_at(alloc, CreatePlace::Column(table, column))
+    at(alloc, Place::Create(CreatePlace::Column(table, column)))
 }
 
 /// Behind a column's name.
@@ -200,19 +196,22 @@ fn behind_column(alloc: Global, table: NewTable, column: ColumnDef, token: &Toke
             if column.primary {
                 no_column(table, column)
             } else {
-                create_at(alloc, CreatePlace::ColumnPrimary(table, column))
+                at(
+                    alloc,
+                    Place::Create(CreatePlace::ColumnPrimary(table, column)),
+                )
             }
         }
         Token::Word(_, Word::Not) => {
             if column.not_null {
                 no_column(table, column)
             } else {
-                create_at(alloc, CreatePlace::ColumnNot(table, column))
+                at(alloc, Place::Create(CreatePlace::ColumnNot(table, column)))
             }
         }
         Token::Word(_, Word::Unique) => unique(alloc, table, column),
         Token::Comma => match add_column(table, column) {
-            Ok(table) => create_at(alloc, CreatePlace::ColumnStart(table)),
+            Ok(table) => at(alloc, Place::Create(CreatePlace::ColumnStart(table))),
             Err(error) => Err(error),
         },
         Token::Close => match add_column(table, column) {
@@ -240,7 +239,7 @@ fn unique(alloc: Global, table: NewTable, mut column: ColumnDef) -> Step
         no_column(table, column)
     } else {
         column.unique = true;
-        create_at(alloc, CreatePlace::Column(table, column))
+        at(alloc, Place::Create(CreatePlace::Column(table, column)))
     }
 }
 
@@ -251,7 +250,7 @@ fn behind_primary(alloc: Global, table: NewTable, mut column: ColumnDef, token: 
     match token {
         Token::Word(_, Word::Key) => {
             column.primary = true;
-            create_at(alloc, CreatePlace::Column(table, column))
+            at(alloc, Place::Create(CreatePlace::Column(table, column)))
         }
         _ => no_column(table, column),
     }
@@ -264,7 +263,7 @@ fn behind_not(alloc: Global, table: NewTable, mut column: ColumnDef, token: &Tok
     match token {
         Token::Word(_, Word::Null) => {
             column.not_null = true;
-            create_at(alloc, CreatePlace::Column(table, column))
+            at(alloc, Place::Create(CreatePlace::Column(table, column)))
         }
         _ => no_column(table, column),
     }

@@ -37,19 +37,12 @@ pub(crate) fn insert_step(alloc: Global, place: InsertPlace, token: Token) -> St
     }
 }
 
-/// At a place of an `INSERT`.
-fn insert_at(alloc: Global, place: InsertPlace) -> Step
-    ensures { IfOk result (λ next. next ≡ spec.flat (p.Insert place)) }
-{
-    at(alloc, Place::Insert(place))
-}
-
 /// Behind `INSERT`.
 fn behind_insert(alloc: Global, token: &Token) -> Step
     ensures { IfOk result (λ next. next ≡ spec.behind_insert token.now) }
 {
     match token {
-        Token::Word(_, Word::Into) => insert_at(alloc, InsertPlace::Into),
+        Token::Word(_, Word::Into) => at(alloc, Place::Insert(InsertPlace::Into)),
         _ => Ok(None),
     }
 }
@@ -59,7 +52,7 @@ fn table_named(alloc: Global, token: Token) -> Step
     ensures { IfOk result (λ next. next ≡ spec.on_name (spec.name_of token) (λ n. p.Insert (ip.Table n))) }
 {
     match name_of(token) {
-        Some(name) => insert_at(alloc, InsertPlace::Table(name)),
+        Some(name) => at(alloc, Place::Insert(InsertPlace::Table(name))),
         None => Ok(None),
     }
 }
@@ -69,7 +62,10 @@ fn behind_table(alloc: Global, table: Text, token: &Token) -> Step
     ensures { IfOk result (λ next. next ≡ spec.behind_table table token.now) }
 {
     match token {
-        Token::Open => insert_at(alloc, InsertPlace::NameStart(table, Items::new(alloc))),
+        Token::Open => at(
+            alloc,
+            Place::Insert(InsertPlace::NameStart(table, Items::new(alloc))),
+        ),
         _ => behind_columns(
             alloc,
             Target {
@@ -87,7 +83,10 @@ fn behind_columns(alloc: Global, target: Target, token: &Token) -> Step
 {
     match token {
         Token::Word(_, Word::Values) => {
-            insert_at(alloc, InsertPlace::Values(target, MeasuredRows::new(alloc)))
+            at(
+                alloc,
+                Place::Insert(InsertPlace::Values(target, MeasuredRows::new(alloc))),
+            )
         }
         Token::Word(_, Word::Select) => {
             let query = MeasuredQuery::new(alloc, Some(target));
@@ -119,7 +118,7 @@ fn column_listed(alloc: Global, table: Text, names: Items<Text>, token: Token) -
 {
     match name_of(token) {
         Some(name) => match with_name(names, name) {
-            Ok(names) => insert_at(alloc, InsertPlace::Names(table, names)),
+            Ok(names) => at(alloc, Place::Insert(InsertPlace::Names(table, names))),
             Err(error) => {
                 drop(table);
                 Err(error)
@@ -138,10 +137,13 @@ fn behind_names(alloc: Global, table: Text, names: Items<Text>, token: &Token) -
     ensures { IfOk result (λ next. next ≡ spec.behind_names table names token.now) }
 {
     match token {
-        Token::Comma => insert_at(alloc, InsertPlace::NameStart(table, names)),
+        Token::Comma => at(alloc, Place::Insert(InsertPlace::NameStart(table, names))),
         Token::Close => {
             let columns = Some(names);
-            insert_at(alloc, InsertPlace::Columns(Target { table, columns }))
+            at(
+                alloc,
+                Place::Insert(InsertPlace::Columns(Target { table, columns })),
+            )
         }
         _ => {
             drop(table);
@@ -173,7 +175,7 @@ fn behind_rows(alloc: Global, target: Target, rows: MeasuredRows, token: &Token)
     ensures { IfOk result (λ next. next ≡ spec.behind_rows target rows token.now) }
 {
     match token {
-        Token::Comma => insert_at(alloc, InsertPlace::Values(target, rows)),
+        Token::Comma => at(alloc, Place::Insert(InsertPlace::Values(target, rows))),
         _ => behind_ended(alloc, MeasuredStmt::insert(target, rows), token),
     }
 }

@@ -29,13 +29,6 @@ pub(crate) fn select_step(alloc: Global, place: SelectPlace, token: Token) -> St
     }
 }
 
-/// At a place of a select.
-fn select_at(alloc: Global, place: SelectPlace) -> Step
-    ensures { IfOk result (λ next. next ≡ spec.flat (p.Select place)) }
-{
-    at(alloc, Place::Select(place))
-}
-
 /// Behind a part of the select.
 pub(crate) fn tail_at(alloc: Global, stage: Stage, query: MeasuredQuery) -> Step
     ensures { IfOk result (λ next. next ≡ spec.flat (p.Select (sp.Tail stage query))) }
@@ -123,7 +116,7 @@ fn behind_where(alloc: Global, query: MeasuredQuery, token: &Token) -> Step
     ensures { IfOk result (λ next. next ≡ spec.behind_where query token.now) }
 {
     match token {
-        Token::Word(_, Word::Order) => select_at(alloc, SelectPlace::Order(query)),
+        Token::Word(_, Word::Order) => at(alloc, Place::Select(SelectPlace::Order(query))),
         _ => behind_order_by(alloc, query, token),
     }
 }
@@ -160,7 +153,7 @@ fn behind_results(alloc: Global, query: MeasuredQuery, token: &Token) -> Step
     ensures { IfOk result (λ next. next ≡ spec.behind_results query token.now) }
 {
     if is_from(token) {
-        select_at(alloc, SelectPlace::From(query))
+        at(alloc, Place::Select(SelectPlace::From(query)))
     } else {
         behind_from(alloc, query, token)
     }
@@ -171,7 +164,7 @@ fn behind_result(alloc: Global, query: MeasuredQuery, token: &Token) -> Step
     ensures { IfOk result (λ next. next ≡ spec.tail stage.Results query token.now) }
 {
     match token {
-        Token::Comma => select_at(alloc, SelectPlace::Result(query)),
+        Token::Comma => at(alloc, Place::Select(SelectPlace::Result(query))),
         _ => behind_results(alloc, query, token),
     }
 }

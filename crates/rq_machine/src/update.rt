@@ -28,19 +28,12 @@ pub(crate) fn update_step(alloc: Global, place: UpdatePlace, token: Token) -> St
     }
 }
 
-/// At a place of an `UPDATE`.
-fn update_at(alloc: Global, place: UpdatePlace) -> Step
-    ensures { IfOk result (λ next. next ≡ spec.flat (p.Update place)) }
-{
-    at(alloc, Place::Update(place))
-}
-
 /// The table's name is to come.
 fn update_named(alloc: Global, token: Token) -> Step
     ensures { IfOk result (λ next. next ≡ spec.on_name (spec.name_of token) (λ n. p.Update (up.Table n))) }
 {
     match name_of(token) {
-        Some(name) => update_at(alloc, UpdatePlace::Table(name)),
+        Some(name) => at(alloc, Place::Update(UpdatePlace::Table(name))),
         None => Ok(None),
     }
 }
@@ -51,9 +44,9 @@ fn behind_update(alloc: Global, table: Text, token: &Token) -> Step
 {
     match token {
         Token::Word(_, Word::Set) => {
-            update_at(
+            at(
                 alloc,
-                UpdatePlace::SetStart(table, MeasuredSets::new(alloc)),
+                Place::Update(UpdatePlace::SetStart(table, MeasuredSets::new(alloc))),
             )
         }
         _ => {
@@ -68,7 +61,10 @@ fn set_named(alloc: Global, table: Text, sets: MeasuredSets, token: Token) -> St
     ensures { IfOk result (λ next. next ≡ spec.on_name (spec.name_of token) (λ n. p.Update (up.SetName table sets n))) }
 {
     match name_of(token) {
-        Some(name) => update_at(alloc, UpdatePlace::SetName(table, sets, name)),
+        Some(name) => at(
+            alloc,
+            Place::Update(UpdatePlace::SetName(table, sets, name)),
+        ),
         None => {
             drop(table);
             drop(sets);
@@ -103,7 +99,7 @@ fn behind_sets(alloc: Global, table: Text, sets: MeasuredSets, token: &Token) ->
     ensures { IfOk result (λ next. next ≡ spec.behind_sets table sets token.now) }
 {
     match token {
-        Token::Comma => update_at(alloc, UpdatePlace::SetStart(table, sets)),
+        Token::Comma => at(alloc, Place::Update(UpdatePlace::SetStart(table, sets))),
         Token::Word(_, Word::Where) => inside(alloc, Clause::UpdateFilter { table, sets }),
         _ => behind_ended(alloc, MeasuredStmt::update(table, sets, None), token),
     }
