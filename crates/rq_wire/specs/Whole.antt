@@ -34,3 +34,12 @@ answer_of one bytes = whole_answer (length bytes) (one bytes)
 abbrev pub IsAnswer : {A : Type 0} → Result A WireError → Result A WireError → Type 0
 IsAnswer (Err wire.NoMemory) answer = Unit {0}
 IsAnswer result answer = result ≡ answer
+
+-- an answer that isn't want of memory
+abbrev pub HasMemory : {A : Type 0} → Result A WireError → Type 0
+HasMemory (Err wire.NoMemory) = ⊥
+HasMemory result = Unit {0}
+
+-- two answers are the same, unless one of them found no memory
+abbrev pub Agree : {A : Type 0} → Result A WireError → Result A WireError → Type 0
+Agree one other = HasMemory one → HasMemory other → one ≡ other

@@ -7,12 +7,25 @@ use std::alloc::Global;
 use std::marker::Model;
 
 /// A node of the cluster: its id, whether it votes, and where it is reached.
-#[derive(Debug, PartialEq, Eq, Drop)]
+#[derive(Debug, PartialEq, Eq)]
 pub struct Member {
     pub id: Id,
     pub voter: bool,
     pub http: Addr,
     pub raft: Addr,
+}
+
+impl Drop for Member {
+    fn drop(self) {
+        let Member {
+            id: _,
+            voter: _,
+            http,
+            raft,
+        } = self;
+        drop(http);
+        drop(raft);
+    }
 }
 
 impl TryCopy for Member {

@@ -4,7 +4,7 @@ use rq_values::{Bytes, NoMemory, TryCopy};
 use std::alloc::Global;
 
 /// What an entry does.
-#[derive(Debug, PartialEq, Drop)]
+#[derive(Debug, PartialEq)]
 pub enum Body {
     NoOp,
     /// From this entry on the cluster has this configuration.
@@ -14,10 +14,27 @@ pub enum Body {
 }
 
 /// An entry of the log: the term in which it was made, and what it does.
-#[derive(Debug, PartialEq, Drop)]
+#[derive(Debug, PartialEq)]
 pub struct Entry {
     pub term: u64,
     pub body: Body,
+}
+
+impl Drop for Body {
+    fn drop(self) {
+        match self {
+            Body::NoOp => (),
+            Body::Config(config) => drop(config),
+            Body::Data(data) => drop(data),
+        }
+    }
+}
+
+impl Drop for Entry {
+    fn drop(self) {
+        let Entry { term: _, body } = self;
+        drop(body);
+    }
 }
 
 impl TryCopy for Body {

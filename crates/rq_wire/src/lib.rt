@@ -13,4 +13,7 @@ pub use decoding::{TEXT_LIMIT, decode_entry, decode_whole};
 pub use encoding::{encode_config, encode_entry};
 pub use entry::{Body, Entry};
 pub use error::{WireError, wire_error};
-pub use laws::entries_are_read_as_spelled;
+pub use laws::{
+    entries_are_read_as_spelled, entries_have_one_spelling, readings_of_entries_agree,
+    two_quorums_meet,
+};
