@@ -17,5 +17,6 @@ mod Opened
 mod Progress
 mod Quiet
 mod Settled
+mod Since
 mod SpelledRead
 mod Standing

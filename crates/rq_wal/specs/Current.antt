@@ -3,7 +3,7 @@ use Rattle.std.specs.Prelude.{◌≡◌, ◌⊎◌, ◌≤◌, ◌<◌, ◌^◌,
 use Rattle.rq_outside.specs.declared.pair.DiskPair.{DiskPair}
 use Rattle.rq_outside.specs.declared.pair.FileNo.{FileNo}
 use Rattle.rq_outside.specs.declared.pair.FileNo.TheVariants.{One, Two}
-use Rattle.rq_outside.specs.Disk.{DiskMeaning}
+use Rattle.rq_outside.specs.Disk.{DiskMeaning, Elapses, Stays}
 use Rattle.rq_outside.specs.Pair.{other, disk_at}
 use Rattle.rq_wal.specs.declared.base.Base.{Base}
 use Rattle.rq_wal.specs.declared.base.Stored.{Stored}
@@ -68,6 +68,12 @@ module _ {D F : Type 0} (means : D → DiskMeaning) where
     pub log : IsLog first (wal_generation wal) stored (take (wal_end wal) (means (disk_at pair (wal_file wal))).content)
     pub at_rest : IsAtRest (means (disk_at pair (wal_file wal))) (wal_end wal)
     pub behind : (c : List ℕ) → (means (disk_at pair (other (wal_file wal)))).images c → IsBehind (wal_file wal) (wal_generation wal) c
+
+  -- Since then the current file took no more than room, and nothing was done to the other one.
+  pub record OnlyRoom (old new : DiskPair D F) (wal : WalFile) : Type 0 where
+    pub other_file : disk_at new (other (wal_file wal)) ≡ disk_at old (other (wal_file wal))
+    pub same : Stays (means (disk_at old (wal_file wal))) (means (disk_at new (wal_file wal)))
+    pub time : Elapses (means (disk_at old (wal_file wal))) (means (disk_at new (wal_file wal)))
 
   -- whatever a crash now leaves of the two files gives a reading with P
   abbrev pub EachImage : Base → DiskPair D F → (Result Stored OpenError → Type 0) → Type 0

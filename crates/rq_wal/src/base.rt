@@ -7,7 +7,7 @@ use rq_wire::{Config, Entry};
 use std::alloc::Global;
 
 /// The start of a log file: what stands for the log up to an index.
-#[derive(Debug, Drop)]
+#[derive(Drop)]
 pub struct Base {
     pub term: u64,
     pub vote: Option<Id>,
@@ -38,7 +38,7 @@ impl TryCopy for Base {
 }
 
 /// What a log file stands for.
-#[derive(Debug, Drop)]
+#[derive(Drop)]
 pub struct Stored {
     pub base: Base,
     pub term: u64,

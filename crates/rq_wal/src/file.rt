@@ -2,13 +2,14 @@
 ghost use Rattle.std.specs.Prelude.{◌≡◌, ◌⊎◌, ◌≤◌, ◌<◌, ◌+◌, ◌*◌, ◌^◌, ◌++◌, List, ℕ, length, take, map, IsTrue, IfOk, OnOk, OnErr};
 ghost use Rattle.std.specs.List.{flat_map};
 ghost use Rattle.rq_outside.specs.declared.pair.Arm.TheVariants as arms;
-ghost use Rattle.rq_outside.specs.Disk.{LeavesOnly, HasRoom, Uses, Stays, Elapses};
+ghost use Rattle.rq_outside.specs.declared.pair.DiskPair.{DiskPair};
+ghost use Rattle.rq_outside.specs.Disk.{LeavesOnly, HasRoom, Uses, Stays};
 ghost use Rattle.rq_outside.specs.Pair.{other, disk_at, arm_of, own_faults, UsedCalls, PairCause};
 ghost use Rattle.rq_wal.specs.declared.frame.Frame.{Frame};
 ghost use Rattle.rq_wal.specs.declared.base.Base.{Base};
 ghost use Rattle.rq_wal.specs.declared.base.Stored.{Stored};
 ghost use Rattle.rq_wal.specs.Calls.{PassesMost, IsShort};
-ghost use Rattle.rq_wal.specs.Current.{IsCurrent, IsSome, EachImage, EachImageGives, EachSinceGivesSome, SomeImageGives};
+ghost use Rattle.rq_wal.specs.Current.{IsCurrent, IsSome, OnlyRoom, EachImage, EachImageGives, EachSinceGivesSome, SomeImageGives};
 ghost use Rattle.rq_wal.specs.Gate.{IsAtRest, HasSomeOf};
 ghost use Rattle.rq_wal.specs.Later.{Later, DeviceRose};
 ghost use Rattle.rq_wal.specs.Rules.{AreAllowed};
@@ -25,7 +26,7 @@ use std::alloc::Global;
 use std::marker::Model;
 
 /// The current file of a pair. After a failed write it is gone, and the pair is to be opened again.
-#[derive(Debug, Drop)]
+#[derive(Drop)]
 pub struct WalFile {
     pub(crate) file: FileNo,
     pub(crate) generation: u64,
@@ -33,7 +34,7 @@ pub struct WalFile {
 }
 
 /// Frames that are ready to be written. A contract sees the bytes of each, with a closed gate behind them.
-#[derive(Debug, Drop)]
+#[derive(Drop)]
 pub struct Batch {
     pieces: Vec<Bytes>,
 }
@@ -93,8 +94,9 @@ impl WalFile {
         self.generation
     }
 
-    /// Takes all the memory that writing these frames wants. None is given where a payload has 2^32 bytes or more, or
+    /// Takes all the memory that writing these frames wants, and does nothing else to the pair. None is given where a payload has 2^32 bytes or more, or
     /// where the file would grow to 2^63 bytes.
+    #[tactic(auto, using(crate::proofs::Since::room_none))]
     pub fn ready<D: Disk>(
         &mut self,
         alloc: Global,
@@ -110,7 +112,7 @@ impl WalFile {
         ensures at_rest { IsTrue D.told → IsAtRest (D.means (disk_at disks.old (wal_file self.old))) (wal_end self.old) → IsAtRest (D.means (disk_at disks.new (wal_file self.new))) (wal_end self.new) }
         ensures current { IsTrue D.told → (first : Base) (stored : Stored) → IsCurrent D.means first disks.old self.old stored → IsCurrent D.means first disks.new self.new stored }
         ensures now { IsTrue D.told → (first : Base) → EachImage D.means first disks.new (SomeImageGives D.means first disks.old) }
-        ensures time { IsTrue D.told → OnOk result (Elapses (D.means (disk_at disks.old (wal_file self.old))) (D.means (disk_at disks.new (wal_file self.old)))) }
+        ensures waits { IsTrue D.told → OnlyRoom D.means disks.old disks.new self.old }
         ensures faults { (D.means (disk_at disks.new (wal_file self.old))).faults ≡ (D.means (disk_at disks.old (wal_file self.old))).faults }
         ensures arm { arm_of disks.new ≡ arm_of disks.old }
         ensures own { own_faults disks.new ≡ own_faults disks.old }
@@ -127,6 +129,7 @@ impl WalFile {
     }
 
     /// Takes the memory that writing these pieces wants.
+    #[tactic(auto, using(crate::proofs::Since::room_none))]
     fn make_room<D: Disk>(&self, disks: &mut DiskPair<D>, pieces: &[Bytes]) -> Result<(), NoMemory>
         ensures fits { OnOk result (wal_end self.now + bytes_of pieces.now < 2 ^ 63) }
         ensures room { OnOk result (HasRoom (D.means (disk_at disks.new (wal_file self.now))) (bytes_of pieces.now + length pieces.now) (4 * length pieces.now)) }
@@ -135,7 +138,7 @@ impl WalFile {
         ensures at_rest { IsTrue D.told → IsAtRest (D.means (disk_at disks.old (wal_file self.now))) (wal_end self.now) → IsAtRest (D.means (disk_at disks.new (wal_file self.now))) (wal_end self.now) }
         ensures current { IsTrue D.told → (first : Base) (stored : Stored) → IsCurrent D.means first disks.old self.now stored → IsCurrent D.means first disks.new self.now stored }
         ensures now { IsTrue D.told → (first : Base) → EachImage D.means first disks.new (SomeImageGives D.means first disks.old) }
-        ensures time { IsTrue D.told → OnOk result (Elapses (D.means (disk_at disks.old (wal_file self.now))) (D.means (disk_at disks.new (wal_file self.now)))) }
+        ensures waits { IsTrue D.told → OnlyRoom D.means disks.old disks.new self.now }
         ensures faults { (D.means (disk_at disks.new (wal_file self.now))).faults ≡ (D.means (disk_at disks.old (wal_file self.now))).faults }
         ensures arm { arm_of disks.new ≡ arm_of disks.old }
         ensures own { own_faults disks.new ≡ own_faults disks.old }
@@ -147,7 +150,8 @@ impl WalFile {
     }
 
     /// Adds the frames in order, by four changing calls each and without memory: the frame and a closed gate behind it; a
-    /// sync; the gate before it is opened; a sync. A stop at any moment leaves the first of the frames, each whole.
+    /// sync; the gate before it is opened; a sync. A stop at any moment leaves the first of the frames, each whole; so it
+    /// is since any earlier moment, where only room was made in between.
     pub fn write<D: Disk>(self, disks: &mut DiskPair<D>, batch: Batch) -> Result<WalFile, Failed>
         requires at_rest { IsTrue D.told → IsAtRest (D.means (disk_at disks.old (wal_file self))) (wal_end self) }
         requires fits { wal_end self + bytes_of batch < 2 ^ 63 }
@@ -162,6 +166,7 @@ impl WalFile {
         ensures current { IsTrue D.told → (first : Base) (stored : Stored) (frames : List Frame) → batch ≡ map piece_of frames → AreAllowed stored frames → IsCurrent D.means first disks.old self stored → IfOk result (λ wal. IsCurrent D.means first disks.new wal (applied_all stored frames)) }
         ensures images { IsTrue D.told → (first : Base) (stored : Stored) (frames : List Frame) → batch ≡ map piece_of frames → AreAllowed stored frames → IsCurrent D.means first disks.old self stored → OnOk result (EachImageGives D.means first disks.new (applied_all stored frames)) }
         ensures some_stand { IsTrue D.told → (first : Base) (stored : Stored) (frames : List Frame) → batch ≡ map piece_of frames → AreAllowed stored frames → IsCurrent D.means first disks.old self stored → EachSinceGivesSome D.means first disks.old disks.new stored frames }
+        ensures moments { IsTrue D.told → (began : DiskPair D D.Fault) (first : Base) (stored : Stored) (frames : List Frame) → batch ≡ map piece_of frames → AreAllowed stored frames → IsCurrent D.means first began self stored → OnlyRoom D.means began disks.old self → EachSinceGivesSome D.means first began disks.new stored frames }
         ensures some_now { IsTrue D.told → (first : Base) (stored : Stored) (frames : List Frame) → batch ≡ map piece_of frames → AreAllowed stored frames → IsCurrent D.means first disks.old self stored → EachImage D.means first disks.new (IsSome stored frames) }
         ensures cause { PairCause D.means disks.old disks.new result }
         ensures device { OnErr result (DeviceRose D.means disks.old disks.new ⊎ (arm_of disks.new ≡ arms.Struck)) }

@@ -3,7 +3,7 @@ use rq_values::{Id, Seq};
 use rq_wire::Entry;
 
 /// One change of what a log file stands for.
-#[derive(Debug, Drop)]
+#[derive(Drop)]
 pub enum Frame {
     /// The term and the vote.
     Vote { term: u64, vote: Option<Id> },

@@ -20,5 +20,5 @@ pub use base::{Base, Stored};
 pub use error::OpenError;
 pub use file::{Batch, WalFile};
 pub use frame::Frame;
-pub use laws::{current_logs_stand, logs_are_read_as_written};
+pub use laws::{current_logs_stand, logs_are_read_as_written, logs_stand_while_room_is_made};
 pub use opening::open;

@@ -8,6 +8,7 @@ use Rattle.rq_wal.specs.Current.{IsSome}
 use Rattle.rq_wal.proofs.ImagesNow.{since_now_at}
 use Rattle.rq_wal.proofs.LogMore.{current_more, some_stand}
 use Rattle.rq_wal.proofs.Moments.{weaker}
+use Rattle.rq_wal.proofs.Since.{since_began}
 use Rattle.rq_wal.proofs.Standing.{images_give}
 use Rattle.rq_wal.proofs.file.WalFile.write.Goals as goal
 
@@ -60,3 +61,11 @@ pub returns-in_err-end-clause-some_now : goal.returns-in_err-end-clause-some_now
 returns-in_err-end-clause-some_now g c told first stored frames same allowed current =
     since_now_at g.D.Disk.means first (g.met.D.Disk.counts_now told) (IsSome stored frames) c.args.disks.now c.write_frames.new.disks c.args.self.file c.write_frames.ensures.other (c.write_frames.ensures.any_moment told).later
     (returns-in_err-end-clause-some_stand g c told first stored frames same allowed current)
+
+pub returns-clause-moments : goal.returns-clause-moments
+returns-clause-moments g c told began first stored frames same allowed current room =
+    since_began g.D.Disk.means (g.met.D.Disk.only_now told) first began c.args.disks.now c.args.self stored frames allowed current room c.write_frames.new.disks c.write_frames.ensures.other (returns-clause-any_moment g c told frames same)
+
+pub returns-in_err-end-clause-moments : goal.returns-in_err-end-clause-moments
+returns-in_err-end-clause-moments g c told began first stored frames same allowed current room =
+    since_began g.D.Disk.means (g.met.D.Disk.only_now told) first began c.args.disks.now c.args.self stored frames allowed current room c.write_frames.new.disks c.write_frames.ensures.other (returns-in_err-end-clause-any_moment g c told frames same)
