@@ -9,8 +9,8 @@ use Rattle.rq_grammar.specs.Proper.{is_statement}
 use Rattle.rq_lexer.specs.Facts.{IsCut}
 use Rattle.rq_lexer.specs.Spelled.{tokens_in}
 use Rattle.rq_sql.specs.Read.{most_bytes, Means}
-use Rattle.rq_settle.specs.Text.{text_of}
-use Rattle.rq_settle.specs.Written.{statement_written}
+use Rattle.rq_print.specs.Text.{text_of}
+use Rattle.rq_print.specs.Written.{statement_written}
 use Rattle.rq_canonical.proofs.Opened.{narrow}
 use Rattle.rq_canonical.proofs.GoodStmt.{stmt_good}
 

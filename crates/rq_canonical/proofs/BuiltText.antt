@@ -26,8 +26,8 @@ use Rattle.rq_engine.specs.declared.statement.Statement.TheVariants as run
 use Rattle.rq_engine.specs.declared.item.Item.TheVariants.{Run, Fail}
 use Rattle.rq_engine.specs.Canonical as engine
 use Rattle.rq_engine.specs.Canonical.{canonical}
-use Rattle.rq_settle.specs.Text as spec
-use Rattle.rq_settle.specs.Text.{text_of}
+use Rattle.rq_print.specs.Text as spec
+use Rattle.rq_print.specs.Text.{text_of}
 use Rattle.rq_settle.specs.Built.{all_of, built_column, built_value, built_select, built}
 use Rattle.rq_settle.specs.Prepared.{too_large, item_of_form, item_of, IsPrepared}
 use Rattle.rq_sql.specs.declared.error.ReadError.{ReadError}

@@ -27,7 +27,7 @@ use Rattle.rq_grammar.specs.Grammar as G
 use Rattle.rq_grammar.specs.Grammar.{upper}
 use Rattle.rq_grammar.specs.Proper.{all_of, is_some_of, is_literal, is_callee, is_parameter, proper_step, is_proper}
 use Rattle.rq_lexer.specs.Facts.{IsCut}
-use Rattle.rq_settle.specs.Written.{literal_written, written_step, is_written}
+use Rattle.rq_print.specs.Written.{literal_written, written_step, is_written}
 
 -- the tokens are tokens of a text
 abbrev pub Cut : Tokens → Type 0

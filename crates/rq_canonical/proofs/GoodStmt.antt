@@ -11,7 +11,7 @@ use Rattle.rq_grammar.specs.Words.{Text, Tokens}
 use Rattle.rq_grammar.specs.Statements as S
 use Rattle.rq_grammar.specs.Statements.{rising, falling}
 use Rattle.rq_grammar.specs.Proper.{all_of, is_some_of, is_proper, is_maybe, is_row, is_result, is_term, are_limits, is_select, is_set, is_list, are_names, is_statement}
-use Rattle.rq_settle.specs.Written.{is_written, maybe_written, maybe_text, row_written, result_written, term_written, limits_written, select_written, column_written, names_written, set_written, statement_written}
+use Rattle.rq_print.specs.Written.{is_written, maybe_written, maybe_text, row_written, result_written, term_written, limits_written, select_written, column_written, names_written, set_written, statement_written}
 use Rattle.rq_canonical.proofs.GoodExpr.{Cut, and, name_text, all_more, some_more, some_one, at_good, some_good}
 
 -- ---- names

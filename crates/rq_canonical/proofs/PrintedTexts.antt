@@ -24,9 +24,9 @@ use Rattle.rq_grammar.specs.Words.{Text, is_reserved, is_time}
 use Rattle.rq_grammar.specs.Grammar.{upper}
 use Rattle.rq_grammar.specs.Spelling.{is_bare, word_of}
 use Rattle.rq_grammar.specs.Proper.{all_of, is_some_of, proper_step, is_proper, is_callee, is_parameter, is_maybe, is_row, is_result, is_term, are_limits, is_select, is_set, are_rows, are_names, is_statement}
-use Rattle.rq_settle.specs.Text as spec
-use Rattle.rq_settle.specs.Text.{expr_step, expr_text, name_text, listed, listed_behind, operator_text, parameter_text, clause_text, name_clause_text, flag_text, text_of}
-use Rattle.rq_settle.specs.Written.{written_step, is_written, maybe_written, maybe_text, row_written, result_written, term_written, limits_written, select_written, column_written, names_written, rows_written, set_written, statement_written}
+use Rattle.rq_print.specs.Text as spec
+use Rattle.rq_print.specs.Text.{expr_step, expr_text, name_text, listed, listed_behind, operator_text, parameter_text, clause_text, name_clause_text, flag_text, text_of}
+use Rattle.rq_print.specs.Written.{written_step, is_written, maybe_written, maybe_text, row_written, result_written, term_written, limits_written, select_written, column_written, names_written, rows_written, set_written, statement_written}
 use Rattle.rq_canonical.proofs.GoodExpr.{split, bare_text, some_all}
 use Rattle.rq_canonical.proofs.Texts.{IsText, join, plain, nothing, quoted, literal_is}
 

@@ -18,8 +18,8 @@ use Rattle.rq_values.specs.declared.value.Value.TheVariants as v
 use Rattle.rq_grammar.specs.Words.{Text}
 use Rattle.rq_grammar.specs.Proper.{is_literal}
 use Rattle.rq_lexer.specs.Spelled.{doubled_byte, doubled, in_quotes, hex_digit, hex_byte}
-use Rattle.rq_settle.specs.Text.{hex_text, literal_text}
-use Rattle.rq_settle.specs.Written.{literal_written}
+use Rattle.rq_print.specs.Text.{hex_text, literal_text}
+use Rattle.rq_print.specs.Written.{literal_written}
 use Rattle.rq_canonical.proofs.GoodExpr.{and, split}
 
 pub record IsText (z : Text) : Type 0 where

@@ -8,8 +8,8 @@ ghost use Rattle.rq_grammar.specs.Print.{tokens_of};
 ghost use Rattle.rq_grammar.specs.Proper.{is_statement};
 ghost use Rattle.rq_sql.specs.Read.{most_bytes, Means};
 ghost use Rattle.rq_settle.specs.Prepared.{IsPrepared};
-ghost use Rattle.rq_settle.specs.Text.{text_of};
-ghost use Rattle.rq_settle.specs.Written.{statement_written};
+ghost use Rattle.rq_print.specs.Text.{text_of};
+ghost use Rattle.rq_print.specs.Written.{statement_written};
 ghost use Rattle.rq_engine.specs.Canonical.{canonical};
 ghost use Rattle.rq_engine.specs.declared.item.Item.TheVariants.{Run};
 
@@ -34,7 +34,7 @@ pub fn printed_text_is_read()
     // So is each statement that was read, where its canonical text is within the limit.
     ensures again { (text : List ℕ) (s : Stmt) → Means text (Ok s) → length (text_of s) ≤ most_bytes → Means (text_of s) (Ok s) }
 {
-    rq_settle::canonical_text_is_read();
+    rq_print::canonical_text_is_read();
     rq_lexer::tokens_in_order();
 }
 

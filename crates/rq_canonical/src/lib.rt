@@ -3,11 +3,9 @@
 
 mod laws;
 mod rereading;
-mod written;
 
 pub use laws::{
     canonical_text_is_prepared_again, canonical_text_is_text, few_parentheses_are_open,
     printed_text_is_read, what_is_read_is_proper,
 };
 pub use rereading::read_printed;
-pub use written::each_statement_is_written;

@@ -3,12 +3,11 @@ ghost use Rattle.std.specs.Prelude.{◌≡◌, ◌≤◌, true, length, Ok};
 ghost use Rattle.rq_grammar.specs.Depth.{the_limits, deepest};
 ghost use Rattle.rq_grammar.specs.Proper.{is_statement};
 ghost use Rattle.rq_sql.specs.Read.{most_bytes, ReadsOnly};
-ghost use Rattle.rq_settle.specs.Text.{text_of};
+ghost use Rattle.rq_print.specs.Text.{text_of};
 
 use crate::laws::printed_text_is_read;
-use crate::written::each_statement_is_written;
 use rq_grammar::Stmt;
-use rq_settle::print;
+use rq_print::{each_statement_is_written, printed};
 use rq_sql::{ReadError, read};
 use std::alloc::Global;
 
@@ -18,7 +17,8 @@ pub fn read_printed(alloc: Global, stmt: &Stmt) -> Result<Stmt, ReadError>
 {
     each_statement_is_written(stmt);
     printed_text_is_read();
-    let mut text = Vec::new(alloc);
-    print(stmt, &mut text)?;
-    read(alloc, &text)
+    let text = printed(alloc, stmt)?;
+    let again = read(alloc, &text);
+    drop(text);
+    again
 }

@@ -1,5 +1,5 @@
 //! Texts, and the canonical text of their statements.
-use rq_settle::print;
+use rq_print::print;
 use rq_sql::read;
 use std::alloc::Global;
 use std::test::Fail;

@@ -1,7 +1,7 @@
 //! Statements that are read, printed and read again.
 use rq_canonical::read_printed;
 use rq_grammar::Stmt;
-use rq_settle::print;
+use rq_print::print;
 use rq_sql::read;
 use std::alloc::Global;
 use std::test::Fail;

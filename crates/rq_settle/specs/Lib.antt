@@ -2,5 +2,3 @@ pub mod Built
 pub mod Prepared
 pub mod Refused
 pub mod Shown
-pub mod Text
-pub mod Written

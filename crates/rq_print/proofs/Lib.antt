@@ -1,0 +1,3 @@
+mod Appending
+pub mod ReadExpr
+pub mod ReadStmt

@@ -1,0 +1,4 @@
+pub mod Fixed
+pub mod Settled
+pub mod Sights
+pub mod Unsettled
