@@ -41,32 +41,32 @@ use Rattle.rq_world.proofs.Apart.{wait_get, book_of, IsAnswered, still_old, more
 
 before_more : (book more : List Note) (number : ℕ) (op : Op) → op_of book number ≡ Some op → before_ask (book ++ more) number ≡ before_ask book number
 before_more [] more number op is = absurd (cc)
-before_more (Asked k o ∷ book) more number op is = go (nat_eq k number) is (λ e. before_more book more number op e)
+before_more (Asked k home o ∷ book) more number op is = go (nat_eq k number) is (λ e. before_more book more number op e)
   where
     go : (b : Bool) → (if b then Some o else op_of book number) ≡ Some op → (op_of book number ≡ Some op → before_ask (book ++ more) number ≡ before_ask book number)
-        → (if b then [] else Asked k o ∷ before_ask (book ++ more) number) ≡ (if b then [] else Asked k o ∷ before_ask book number)
+        → (if b then [] else Asked k home o ∷ before_ask (book ++ more) number) ≡ (if b then [] else Asked k home o ∷ before_ask book number)
     go true e on = refl
-    go false e on = ap (λ (l : List Note). Asked k o ∷ l) (on e)
+    go false e on = ap (λ (l : List Note). Asked k home o ∷ l) (on e)
 before_more (Answered k say place ∷ book) more number op is = ap (λ (l : List Note). Answered k say place ∷ l) (before_more book more number op is)
 
-before_new : (book : List Note) (number : ℕ) (op : Op) (more : List Note) → op_of book number ≡ None → before_ask (book ++ Asked number op ∷ more) number ≡ book
-before_new [] number op more is = ap (λ (b : Bool). if b then [] else Asked number op ∷ before_ask more number) (same number)
+before_new : (book : List Note) (number : ℕ) (asked : NodeId) (op : Op) (more : List Note) → op_of book number ≡ None → before_ask (book ++ Asked number asked op ∷ more) number ≡ book
+before_new [] number asked op more is = ap (λ (b : Bool). if b then [] else Asked number asked op ∷ before_ask more number) (same number)
   where
     same : (k : ℕ) → nat_eq k k ≡ true
     same k = grind arith
-before_new (Asked k o ∷ book) number op more is = go (nat_eq k number) is (λ e. before_new book number op more e)
+before_new (Asked k home o ∷ book) number asked op more is = go (nat_eq k number) is (λ e. before_new book number asked op more e)
   where
-    go : (b : Bool) → (if b then Some o else op_of book number) ≡ None → (op_of book number ≡ None → before_ask (book ++ Asked number op ∷ more) number ≡ book)
-        → (if b then [] else Asked k o ∷ before_ask (book ++ Asked number op ∷ more) number) ≡ Asked k o ∷ book
+    go : (b : Bool) → (if b then Some o else op_of book number) ≡ None → (op_of book number ≡ None → before_ask (book ++ Asked number asked op ∷ more) number ≡ book)
+        → (if b then [] else Asked k home o ∷ before_ask (book ++ Asked number asked op ∷ more) number) ≡ Asked k home o ∷ book
     go true e on = absurd (cc)
-    go false e on = ap (λ (l : List Note). Asked k o ∷ l) (on e)
-before_new (Answered k say place ∷ book) number op more is = ap (λ (l : List Note). Answered k say place ∷ l) (before_new book number op more is)
+    go false e on = ap (λ (l : List Note). Asked k home o ∷ l) (on e)
+before_new (Answered k say place ∷ book) number asked op more is = ap (λ (l : List Note). Answered k say place ∷ l) (before_new book number asked op more is)
 
 before_get : (book : List Note) (number k : ℕ) (q : Note) → slice_get (before_ask book number) k ≡ Some q → slice_get book k ≡ Some q
 before_get [] number k q e = e
-before_get (Asked j o ∷ book) number k q e = go k (nat_eq j number) e (λ m f. before_get book number m q f)
+before_get (Asked j home o ∷ book) number k q e = go k (nat_eq j number) e (λ m f. before_get book number m q f)
   where
-    go : (k : ℕ) (b : Bool) → slice_get (if b then [] else Asked j o ∷ before_ask book number) k ≡ Some q → ((m : ℕ) → slice_get (before_ask book number) m ≡ Some q → slice_get book m ≡ Some q) → slice_get (Asked j o ∷ book) k ≡ Some q
+    go : (k : ℕ) (b : Bool) → slice_get (if b then [] else Asked j home o ∷ before_ask book number) k ≡ Some q → ((m : ℕ) → slice_get (before_ask book number) m ≡ Some q → slice_get book m ≡ Some q) → slice_get (Asked j home o ∷ book) k ≡ Some q
     go k true e on = absurd (cc)
     go zero false e on = e
     go (suc k) false e on = on k e
@@ -112,7 +112,7 @@ module _ (g : Given) (known : Known g) (later : LaterEntriesCover (entry_view lo
 
   pub book_next : (run : Events) (e : Event) → (l : List Note) × (book_of g known (Then run e) ≡ book_of g known run ++ l)
   book_next run e = ⊎_elim
-      (λ (a : Acted g known run e). (note_of g.first a.act ++ at_place g.first (place_of g.first a.node a.act) (t g known run e a).answers, ap (λ (w : Rattle.rq_world.specs.World.World). w.book) a.next))
+      (λ (a : Acted g known run e). (note_of g.first a.who a.act ++ at_place g.first (place_of g.first a.node a.act) (t g known run e a).answers, ap (λ (w : Rattle.rq_world.specs.World.World). w.book) a.next))
       (λ (k : Still g known run e). (k.more, k.book)) (kind g known run e)
 
   pub book_past : (p run : Events) → IsPast g.first p run → (l : List Note) × (book_of g known run ≡ book_of g known p ++ l)
@@ -226,11 +226,11 @@ module _ (g : Given) (known : Known g) (later : LaterEntriesCover (entry_view lo
     starts : (number timeout : ℕ) (op : Op) → a.act ≡ Ask number timeout op → Started (Then run e) a.who number run
     starts number timeout op is =
         let said = at_place g.first (place_of g.first a.node a.act) turn.answers in
-        let book : book_of g known (Then run e) ≡ book_of g known run ++ (note_of g.first a.act ++ said) = ap (λ (w : Rattle.rq_world.specs.World.World). w.book) a.next in
-        let asked : book_of g known (Then run e) ≡ book_of g known run ++ (Asked number op ∷ said) = book ∙ ap (λ (x : Act). book_of g known run ++ (note_of g.first x ++ said)) is in
+        let book : book_of g known (Then run e) ≡ book_of g known run ++ (note_of g.first a.who a.act ++ said) = ap (λ (w : Rattle.rq_world.specs.World.World). w.book) a.next in
+        let asked : book_of g known (Then run e) ≡ book_of g known run ++ (Asked number a.who op ∷ said) = book ∙ ap (λ (x : Act). book_of g known run ++ (note_of g.first a.who x ++ said)) is in
         record {
           past = inr (here g run);
-          before = ap (λ (l : List Note). before_ask l number) asked ∙ before_new (book_of g known run) number op said (new number timeout op is);
+          before = ap (λ (l : List Note). before_ask l number) asked ∙ before_new (book_of g known run) number a.who op said (new number timeout op is);
           op = op;
           asked = ap (λ (l : List Note). op_of l number) book ∙ asks g known run e s a new (passed g known run numbered.0) number timeout op is;
           timeout = timeout;

@@ -12,6 +12,7 @@ use Rattle.rq_world.specs.Commands.{strong_query_bytes}
 use Rattle.rq_engine.specs.Meaning.{answers}
 use Rattle.rq_raft.specs.declared.role.Role.{Role}
 use Rattle.rq_raft.specs.declared.role.Role.TheVariants.{Follower, Candidate, Leader}
+use Rattle.rq_history.specs.History.{NodeId}
 use Rattle.rq_raft.specs.Node.{RaftNode, Message, VoteAsk, VoteSay, Append, AppendSay, Install, InstallSay, Packet, RaftTurn, is_leader}
 use Rattle.rq_raft.specs.Vote as vote
 use Rattle.rq_raft.specs.Lead as lead
@@ -160,7 +161,7 @@ none_get first place (a ∷ l) zero number at say c (f, all) e = f (subst Counts
   where
     said_in : Option Note → Say
     said_in None = a.say
-    said_in (Some (Asked j o)) = a.say
+    said_in (Some (Asked j home o)) = a.say
     said_in (Some (Answered j x p)) = x
 none_get first place (a ∷ l) (suc m) number at say c (f, all) e = none_get first place l m number at say c all e
 
@@ -234,7 +235,7 @@ module _ (g : Given) where
 
   -- the next entry is applied, for which the first asks wait, and this is one of them
   pub record IsNext (n : Node) (a : Act) (x : RaftNode LogEntry) (m number place : ℕ) : Type 0 where
-    pub none : note_of g.first a ≡ []
+    pub none : (i : NodeId) → note_of g.first i a ≡ []
     pub place_is : place ≡ n.raft.applied + 1
     pub applied : x.applied ≡ n.raft.applied + 1
     pub less : n.raft.applied < n.raft.commit
@@ -311,12 +312,12 @@ module _ (g : Given) where
         where
           place_in : Option Note → ℕ
           place_in None = 0
-          place_in (Some (Asked j o)) = 0
+          place_in (Some (Asked j home o)) = 0
           place_in (Some (Answered j x p)) = p
 
           number_in : Option Note → ℕ
           number_in None = 0
-          number_in (Some (Asked j o)) = 0
+          number_in (Some (Asked j home o)) = 0
           number_in (Some (Answered j x p)) = j
       own (suc m) asked place say e = absurd (cc)
 
@@ -373,12 +374,12 @@ module _ (g : Given) where
         where
           place_in : Option Note → ℕ
           place_in None = 0
-          place_in (Some (Asked j o)) = 0
+          place_in (Some (Asked j home o)) = 0
           place_in (Some (Answered j x p)) = p
 
           number_in : Option Note → ℕ
           number_in None = 0
-          number_in (Some (Asked j o)) = 0
+          number_in (Some (Asked j home o)) = 0
           number_in (Some (Answered j x p)) = j
       own false (suc m) asked place say e = absurd (cc)
 
@@ -444,12 +445,12 @@ module _ (g : Given) where
 
       place_in : Option Note → ℕ
       place_in None = 0
-      place_in (Some (Asked j o)) = 0
+      place_in (Some (Asked j home o)) = 0
       place_in (Some (Answered j x p)) = p
 
       number_in : Option Note → ℕ
       number_in None = 0
-      number_in (Some (Asked j o)) = 0
+      number_in (Some (Asked j home o)) = 0
       number_in (Some (Answered j x p)) = j
 
       go : (k : ℕ) (b : Bool) → is_due g.first m.raft r.pass ≡ b → slice_get (at_place g.first place (if b then mine ∷ due_answers g.first m rs else due_answers g.first m rs)) k ≡ Some (Answered number say at)
@@ -494,7 +495,7 @@ module _ (g : Given) where
     queue = inl refl;
     answers = λ m number place say c e.
         let k = next (outcome_of n.database content) n.waiting m number place say e in
-        Next (record { none = refl; place_is = k.4; applied = refl; less = lt; waiting = k.0; found = k.1; number_is = k.2; at = k.3 });
+        Next (record { none = λ i. refl; place_is = k.4; applied = refl; less = lt; waiting = k.0; found = k.1; number_is = k.2; at = k.3 });
     pending_reads = λ r h. inl h;
     waitings = λ w h. inl (waiting_left w (n.raft.applied + 1) n.waiting h);
   }
@@ -506,12 +507,12 @@ module _ (g : Given) where
         where
           place_in : Option Note → ℕ
           place_in None = 0
-          place_in (Some (Asked j o)) = 0
+          place_in (Some (Asked j home o)) = 0
           place_in (Some (Answered j x p)) = p
 
           number_in : Option Note → ℕ
           number_in None = 0
-          number_in (Some (Asked j o)) = 0
+          number_in (Some (Asked j home o)) = 0
           number_in (Some (Answered j x p)) = j
 
           go : (m : ℕ) (b : Bool) → (w.index == n.raft.applied + 1) ≡ b → slice_get (at_place g.first (n.raft.applied + 1) (if b then record { number = w.number; say = said got w.sequence } ∷ answered (n.raft.applied + 1) got ws else [])) m ≡ Some (Answered number say place)

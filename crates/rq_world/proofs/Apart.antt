@@ -214,22 +214,22 @@ module _ (g : Given) (known : Known g) where
     tt2 = t g known run e a
 
     abbrev pub more : List Note
-    more = note_of g.first a.act ++ at_place g.first (place_of g.first a.node a.act) tt2.answers
+    more = note_of g.first a.who a.act ++ at_place g.first (place_of g.first a.node a.act) tt2.answers
 
     pub book_is : book_of (Then run e) ≡ book_of run ++ more
     book_is = ap (λ (w : World). w.book) a.next
 
     pub asks : (number timeout : ℕ) (op : Op) → a.act ≡ Ask number timeout op → op_of (book_of run ++ more) number ≡ Some op
-    asks number timeout op is = subst (λ (x : Act). op_of (book_of run ++ (note_of g.first x ++ at_place g.first (place_of g.first a.node a.act) tt2.answers)) number ≡ Some op) (sym is)
-        (number_is g known.lead_on (book_of run) number op (at_place g.first (place_of g.first a.node a.act) tt2.answers) (new number timeout op is))
+    asks number timeout op is = subst (λ (x : Act). op_of (book_of run ++ (note_of g.first a.who x ++ at_place g.first (place_of g.first a.node a.act) tt2.answers)) number ≡ Some op) (sym is)
+        (number_is g known.lead_on (book_of run) number a.who op (at_place g.first (place_of g.first a.node a.act) tt2.answers) (new number timeout op is))
 
     -- where an answer with results comes from
-    pub source_of : (m number place : ℕ) (say : Say) → Counts say → slice_get more m ≡ Some (Answered number say place) → (j : ℕ) × (m ≡ length (note_of g.first a.act) + j) × Source g a.node a.act tt2.node.raft j number place
+    pub source_of : (m number place : ℕ) (say : Say) → Counts say → slice_get more m ≡ Some (Answered number say place) → (j : ℕ) × (m ≡ length (note_of g.first a.who a.act) + j) × Source g a.node a.act tt2.node.raft j number place
     source_of m number place say c at = ⊎_elim
-        (λ (o : slice_get (note_of g.first a.act) m ≡ Some (Answered number say place)). absurd (notes_silent g known a.act m number place say o))
-        (λ (x : (j : ℕ) × (m ≡ length (note_of g.first a.act) + j) × (slice_get (at_place g.first (place_of g.first a.node a.act) tt2.answers) j ≡ Some (Answered number say place))).
+        (λ (o : slice_get (note_of g.first a.who a.act) m ≡ Some (Answered number say place)). absurd (notes_silent g known a.who a.act m number place say o))
+        (λ (x : (j : ℕ) × (m ≡ length (note_of g.first a.who a.act) + j) × (slice_get (at_place g.first (place_of g.first a.node a.act) tt2.answers) j ≡ Some (Answered number say place))).
         (x.0, x.1, (act_gives g known.lead_on (world g.first run).sent (world g.first run).moment a.node a.act).answers x.0 number place say c x.2))
-        (note_both (note_of g.first a.act) (at_place g.first (place_of g.first a.node a.act) tt2.answers) m (Answered number say place) at)
+        (note_both (note_of g.first a.who a.act) (at_place g.first (place_of g.first a.node a.act) tt2.answers) m (Answered number say place) at)
 
     -- the read that is due was asked so
     pub due_asked : (number place : ℕ) (d : IsDue g a.node a.act tt2.node.raft number place) → (limit : Option ℕ) × (op_of (book_of run ++ more) number ≡ Some (Read d.reading.items level.Linearizable limit))
@@ -313,7 +313,7 @@ module _ (g : Given) (known : Known g) where
         (λ (n : (m : ℕ) × (k ≡ length (book_of run) + m) × (slice_get more m ≡ Some (Answered number say place))).
         let x = source_of n.0 number place say (ack_counts (op_of (book_of run ++ more) number) say op) n.2 in
         let next = write_source x.0 number place say op x.2 in
-        inr (x.0, omega (arith, n.1, x.1, ap length next.none), fresh x.0 number place next))
+        inr (x.0, omega (arith, n.1, x.1, ap length (next.none a.who)), fresh x.0 number place next))
         (note_both (book_of run) more k (Answered number say place) (subst (λ (b : List Note). slice_get b k ≡ Some (Answered number say place)) book_is w.0))
 
     none : Choice

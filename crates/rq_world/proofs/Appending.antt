@@ -208,24 +208,24 @@ module _ (g : Given) (known : Known g) where
   book run = (world g.first run).book
 
   -- the ask is noted
-  puts_noted : (q : Events) (f : Event) (i : NodeId) (number timeout : ℕ) (op : Op) → Performs f i (Ask number timeout op) → (rest : List Note) × (book (Then q f) ≡ book q ++ (Asked number op ∷ rest))
-  puts_noted q (At j a) i number timeout op p = go ((world g.first q).nodes j) refl
+  puts_noted : (q : Events) (f : Event) (i : NodeId) (number timeout : ℕ) (op : Op) → Performs f i (Ask number timeout op) → (rest : List Note) × (book (Then q f) ≡ book q ++ (Asked number i op ∷ rest))
+  puts_noted q (At j a) i number timeout op p = subst (λ (w : NodeId). (rest : List Note) × (book (Then q (At j a)) ≡ book q ++ (Asked number w op ∷ rest))) p.0 (go ((world g.first q).nodes j) refl)
     where
-      go : (s : NodeState) → (world g.first q).nodes j ≡ s → (rest : List Note) × (book (Then q (At j a)) ≡ book q ++ (Asked number op ∷ rest))
+      go : (s : NodeState) → (world g.first q).nodes j ≡ s → (rest : List Note) × (book (Then q (At j a)) ≡ book q ++ (Asked number j op ∷ rest))
       go (Running n) is =
           let rest = at_place g.first (place_of g.first n a) (turn g.first (world g.first q) n a).answers in
-          (rest, ap (λ (w : World). w.book) (ap (happens_at g.first (world g.first q) j a) is) ∙ ap (λ (x : Act). book q ++ (note_of g.first x ++ rest)) p.1)
-      go (Down kept rest) is = ([], ap (λ (w : World). w.book) (ap (happens_at g.first (world g.first q) j a) is) ∙ ap (λ (x : Act). book q ++ note_of g.first x) p.1)
-  puts_noted q (Stop j a k) i number timeout op p = go ((world g.first q).nodes j) refl
+          (rest, ap (λ (w : World). w.book) (ap (happens_at g.first (world g.first q) j a) is) ∙ ap (λ (x : Act). book q ++ (note_of g.first j x ++ rest)) p.1)
+      go (Down kept rest) is = ([], ap (λ (w : World). w.book) (ap (happens_at g.first (world g.first q) j a) is) ∙ ap (λ (x : Act). book q ++ note_of g.first j x) p.1)
+  puts_noted q (Stop j a k) i number timeout op p = subst (λ (w : NodeId). (rest : List Note) × (book (Then q (Stop j a k)) ≡ book q ++ (Asked number w op ∷ rest))) p.0 (go ((world g.first q).nodes j) refl)
     where
-      go : (s : NodeState) → (world g.first q).nodes j ≡ s → (rest : List Note) × (book (Then q (Stop j a k)) ≡ book q ++ (Asked number op ∷ rest))
-      go (Running n) is = ([], ap (λ (w : World). w.book) (ap (stops_at g.first (world g.first q) j a k) is) ∙ ap (λ (x : Act). book q ++ note_of g.first x) p.1)
-      go (Down kept rest) is = ([], ap (λ (w : World). w.book) (ap (stops_at g.first (world g.first q) j a k) is) ∙ ap (λ (x : Act). book q ++ note_of g.first x) p.1)
-  puts_noted q (Fail j a) i number timeout op p = go ((world g.first q).nodes j) refl
+      go : (s : NodeState) → (world g.first q).nodes j ≡ s → (rest : List Note) × (book (Then q (Stop j a k)) ≡ book q ++ (Asked number j op ∷ rest))
+      go (Running n) is = ([], ap (λ (w : World). w.book) (ap (stops_at g.first (world g.first q) j a k) is) ∙ ap (λ (x : Act). book q ++ note_of g.first j x) p.1)
+      go (Down kept rest) is = ([], ap (λ (w : World). w.book) (ap (stops_at g.first (world g.first q) j a k) is) ∙ ap (λ (x : Act). book q ++ note_of g.first j x) p.1)
+  puts_noted q (Fail j a) i number timeout op p = subst (λ (w : NodeId). (rest : List Note) × (book (Then q (Fail j a)) ≡ book q ++ (Asked number w op ∷ rest))) p.0 (go ((world g.first q).nodes j) refl)
     where
-      go : (s : NodeState) → (world g.first q).nodes j ≡ s → (rest : List Note) × (book (Then q (Fail j a)) ≡ book q ++ (Asked number op ∷ rest))
-      go (Running n) is = ([], ap (λ (w : World). w.book) (ap (fails_at g.first (world g.first q) j a) is) ∙ ap (λ (x : Act). book q ++ note_of g.first x) p.1)
-      go (Down kept rest) is = ([], ap (λ (w : World). w.book) (ap (fails_at g.first (world g.first q) j a) is) ∙ ap (λ (x : Act). book q ++ note_of g.first x) p.1)
+      go : (s : NodeState) → (world g.first q).nodes j ≡ s → (rest : List Note) × (book (Then q (Fail j a)) ≡ book q ++ (Asked number j op ∷ rest))
+      go (Running n) is = ([], ap (λ (w : World). w.book) (ap (fails_at g.first (world g.first q) j a) is) ∙ ap (λ (x : Act). book q ++ note_of g.first j x) p.1)
+      go (Down kept rest) is = ([], ap (λ (w : World). w.book) (ap (fails_at g.first (world g.first q) j a) is) ∙ ap (λ (x : Act). book q ++ note_of g.first j x) p.1)
   puts_noted q (Start j k) i number timeout op p = absurd p
   puts_noted q (FailStart j k) i number timeout op p = absurd p
   puts_noted q (Clock moment) i number timeout op p = absurd p
@@ -239,7 +239,7 @@ module _ (g : Given) (known : Known g) (later : Rattle.rq_history.specs.Laws.Lat
   again p r e f i j number timeout timeout' op op' past numbered x y =
       let n = puts_noted g known p e i number timeout op x in
       let first = numbered_past g known later (Then p e) r past numbered.0 in
-      let there : op_of (book g known (Then p e)) number ≡ Some op = ap (λ (b : List Note). op_of b number) n.1 ∙ number_is g known.lead_on (book g known p) number op n.0 (new_at g known p e i number timeout op x first) in
+      let there : op_of (book g known (Then p e)) number ≡ Some op = ap (λ (b : List Note). op_of b number) n.1 ∙ number_is g known.lead_on (book g known p) number i op n.0 (new_at g known p e i number timeout op x first) in
       let l = book_past g known later (Then p e) r past in
       let kept : op_of (book g known r) number ≡ Some op = ap (λ (b : List Note). op_of b number) l.1 ∙ op_kept (book g known (Then p e)) l.0 number op there in
       differ (sym (new_at g known r f j number timeout' op' y numbered) ∙ kept)
@@ -301,7 +301,7 @@ module _ (g : Given) (known : Known g) (later : Rattle.rq_history.specs.Laws.Lat
       let does : Performs x.event x.who (Ask number f.timeout f.op) = subst (Performs x.event x.who) f.is x.does in
       let n = puts_noted g known x.before x.event x.who number f.timeout f.op does in
       let here2 = numbered_past g known later (Then x.before x.event) run x.past numbered in
-      let there : op_of (book g known (Then x.before x.event)) number ≡ Some f.op = ap (λ (b : List Note). op_of b number) n.1 ∙ number_is g known.lead_on (book g known x.before) number f.op n.0 (new_at g known x.before x.event x.who number f.timeout f.op does here2) in
+      let there : op_of (book g known (Then x.before x.event)) number ≡ Some f.op = ap (λ (b : List Note). op_of b number) n.1 ∙ number_is g known.lead_on (book g known x.before) number x.who f.op n.0 (new_at g known x.before x.event x.who number f.timeout f.op does here2) in
       let l = book_past g known later (Then x.before x.event) run x.past in
       let one : op_of (book g known run) number ≡ Some f.op = ap (λ (b : List Note). op_of b number) l.1 ∙ op_kept (book g known (Then x.before x.event)) l.0 number f.op there in
       let np = numbered_past g known later (Then y.before y.event) run y.past numbered in

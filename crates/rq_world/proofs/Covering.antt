@@ -133,32 +133,32 @@ module _ (g : Given) (known : Known g) where
   never_up : (kept : Persistent LogEntry) (rest : List (StoredRecord LogEntry)) (m : Node) → Down kept rest ≡ Running m → Prim.⊥
   never_up kept rest m e = cc
 
-  pub notes_silent : (a : Act) (m number place : ℕ) (say : Say) → slice_get (note_of g.first a) m ≡ Some (Answered number say place) → Prim.⊥
-  notes_silent (Ask k timeout op) zero number place say e = cc
-  notes_silent (Ask k timeout op) (suc m) number place say e = cc
-  notes_silent Elect m number place say e = cc
-  notes_silent Beat m number place say e = cc
-  notes_silent Flush m number place say e = cc
-  notes_silent Apply m number place say e = cc
-  notes_silent Compact m number place say e = cc
-  notes_silent (Deliver k) m number place say e = cc
-  notes_silent Tick m number place say e = cc
-  notes_silent Idle m number place say e = cc
+  pub notes_silent : (i : NodeId) (a : Act) (m number place : ℕ) (say : Say) → slice_get (note_of g.first i a) m ≡ Some (Answered number say place) → Prim.⊥
+  notes_silent i (Ask k timeout op) zero number place say e = cc
+  notes_silent i (Ask k timeout op) (suc m) number place say e = cc
+  notes_silent i Elect m number place say e = cc
+  notes_silent i Beat m number place say e = cc
+  notes_silent i Flush m number place say e = cc
+  notes_silent i Apply m number place say e = cc
+  notes_silent i Compact m number place say e = cc
+  notes_silent i (Deliver k) m number place say e = cc
+  notes_silent i Tick m number place say e = cc
+  notes_silent i Idle m number place say e = cc
 
-  same_still : (run : Events) (e : Event) (a : Act) (next : World) → next.book ≡ (world g.first run).book ++ note_of g.first a → world g.first (Then run e) ≡ next → next.sent ≡ (world g.first run).sent → next.nodes ≡ (world g.first run).nodes → Still run e
-  same_still run e a next book is sent nodes = record {
-    more = note_of g.first a;
+  same_still : (run : Events) (e : Event) (i : NodeId) (a : Act) (next : World) → next.book ≡ (world g.first run).book ++ note_of g.first i a → world g.first (Then run e) ≡ next → next.sent ≡ (world g.first run).sent → next.nodes ≡ (world g.first run).nodes → Still run e
+  same_still run e i a next book is sent nodes = record {
+    more = note_of g.first i a;
     book = ap (λ (w : World). w.book) is ∙ book;
-    silent = notes_silent a;
+    silent = notes_silent i a;
     sent = ap (λ (w : World). w.sent) is ∙ sent;
     nodes = λ j m r. inl (sym (ap (λ (p : NodeId → NodeState). p j) (ap (λ (w : World). w.nodes) is ∙ nodes)) ∙ r);
   }
 
-  put_still : (run : Events) (e : Event) (a : Act) (next : World) → next.book ≡ (world g.first run).book ++ note_of g.first a → (i : NodeId) (place : NodeState) → ((m : Node) → place ≡ Running m → (m.raft.role ≡ Follower) × (m.queue ≡ [])) → world g.first (Then run e) ≡ next → next.sent ≡ (world g.first run).sent → next.nodes ≡ set_node g.first (world g.first run).nodes i place → Still run e
-  put_still run e a next book i place follows is sent nodes = record {
-    more = note_of g.first a;
+  put_still : (run : Events) (e : Event) (i : NodeId) (a : Act) (next : World) → next.book ≡ (world g.first run).book ++ note_of g.first i a → (place : NodeState) → ((m : Node) → place ≡ Running m → (m.raft.role ≡ Follower) × (m.queue ≡ [])) → world g.first (Then run e) ≡ next → next.sent ≡ (world g.first run).sent → next.nodes ≡ set_node g.first (world g.first run).nodes i place → Still run e
+  put_still run e i a next book place follows is sent nodes = record {
+    more = note_of g.first i a;
     book = ap (λ (w : World). w.book) is ∙ book;
-    silent = notes_silent a;
+    silent = notes_silent i a;
     sent = ap (λ (w : World). w.sent) is ∙ sent;
     nodes = λ j m r. ⊎_elim
         (λ (p : (j ≡ i) × (place ≡ Running m)). inr (follows m p.1)) (λ (p : (world g.first run).nodes j ≡ Running m). inl p)
@@ -176,32 +176,32 @@ module _ (g : Given) (known : Known g) where
     where
       go : (p : NodeState) → (world g.first run).nodes i ≡ p → Acted run (At i a) ⊎ Still run (At i a)
       go (Running n) is = inl (record { who = i; node = n; act = a; runs = is; event = refl; asked = refl; next = ap (happens_at g.first (world g.first run) i a) is })
-      go (Down kept rest) is = inr (same_still run (At i a) a (noted g.first (world g.first run) a) refl (ap (happens_at g.first (world g.first run) i a) is) refl refl)
+      go (Down kept rest) is = inr (same_still run (At i a) i a (noted g.first (world g.first run) i a) refl (ap (happens_at g.first (world g.first run) i a) is) refl refl)
   kind run (Stop i a k) = go ((world g.first run).nodes i) refl
     where
       go : (p : NodeState) → (world g.first run).nodes i ≡ p → Acted run (Stop i a k) ⊎ Still run (Stop i a k)
-      go (Running n) is = inr (put_still run (Stop i a k) a (stops_at g.first (world g.first run) i a k (Running n)) refl i (Down (persistent_after (persistent_of n) (take k (turn g.first (world g.first run) n a).stored)) []) (down_follows (persistent_after (persistent_of n) (take k (turn g.first (world g.first run) n a).stored)) []) (ap (stops_at g.first (world g.first run) i a k) is) refl refl)
-      go (Down kept rest) is = inr (same_still run (Stop i a k) a (noted g.first (world g.first run) a) refl (ap (stops_at g.first (world g.first run) i a k) is) refl refl)
+      go (Running n) is = inr (put_still run (Stop i a k) i a (stops_at g.first (world g.first run) i a k (Running n)) refl (Down (persistent_after (persistent_of n) (take k (turn g.first (world g.first run) n a).stored)) []) (down_follows (persistent_after (persistent_of n) (take k (turn g.first (world g.first run) n a).stored)) []) (ap (stops_at g.first (world g.first run) i a k) is) refl refl)
+      go (Down kept rest) is = inr (same_still run (Stop i a k) i a (noted g.first (world g.first run) i a) refl (ap (stops_at g.first (world g.first run) i a k) is) refl refl)
   kind run (Fail i a) = go ((world g.first run).nodes i) refl
     where
       go : (p : NodeState) → (world g.first run).nodes i ≡ p → Acted run (Fail i a) ⊎ Still run (Fail i a)
-      go (Running n) is = inr (put_still run (Fail i a) a (fails_at g.first (world g.first run) i a (Running n)) refl i (Down (persistent_of n) (turn g.first (world g.first run) n a).stored) (down_follows (persistent_of n) (turn g.first (world g.first run) n a).stored) (ap (fails_at g.first (world g.first run) i a) is) refl refl)
-      go (Down kept rest) is = inr (same_still run (Fail i a) a (noted g.first (world g.first run) a) refl (ap (fails_at g.first (world g.first run) i a) is) refl refl)
+      go (Running n) is = inr (put_still run (Fail i a) i a (fails_at g.first (world g.first run) i a (Running n)) refl (Down (persistent_of n) (turn g.first (world g.first run) n a).stored) (down_follows (persistent_of n) (turn g.first (world g.first run) n a).stored) (ap (fails_at g.first (world g.first run) i a) is) refl refl)
+      go (Down kept rest) is = inr (same_still run (Fail i a) i a (noted g.first (world g.first run) i a) refl (ap (fails_at g.first (world g.first run) i a) is) refl refl)
   kind run (Start i k) = by_member (one_of (members g.first) i) refl
     where
       go : (p : NodeState) → (world g.first run).nodes i ≡ p → world g.first (Then run (Start i k)) ≡ starts_at g.first (world g.first run) i k p → Acted run (Start i k) ⊎ Still run (Start i k)
-      go (Running n) is next = inr (same_still run (Start i k) Idle (world g.first run) (sym (append-nil (world g.first run).book)) next refl refl)
-      go (Down kept rest) is next = inr (put_still run (Start i k) Idle (starts_at g.first (world g.first run) i k (Down kept rest)) (sym (append-nil (world g.first run).book)) i (Running (started i (persistent_after kept (take k rest))).node) (started_follows i (persistent_after kept (take k rest))) next refl refl)
+      go (Running n) is next = inr (same_still run (Start i k) i Idle (world g.first run) (sym (append-nil (world g.first run).book)) next refl refl)
+      go (Down kept rest) is next = inr (put_still run (Start i k) i Idle (starts_at g.first (world g.first run) i k (Down kept rest)) (sym (append-nil (world g.first run).book)) (Running (started i (persistent_after kept (take k rest))).node) (started_follows i (persistent_after kept (take k rest))) next refl refl)
 
       by_member : (b : Bool) → one_of (members g.first) i ≡ b → Acted run (Start i k) ⊎ Still run (Start i k)
       by_member true e = go ((world g.first run).nodes i) refl (ap (λ (b : Bool). cond b (starts_at g.first (world g.first run) i k ((world g.first run).nodes i)) (world g.first run)) e)
-      by_member false e = inr (same_still run (Start i k) Idle (world g.first run) (sym (append-nil (world g.first run).book)) (ap (λ (b : Bool). cond b (starts_at g.first (world g.first run) i k ((world g.first run).nodes i)) (world g.first run)) e) refl refl)
+      by_member false e = inr (same_still run (Start i k) i Idle (world g.first run) (sym (append-nil (world g.first run).book)) (ap (λ (b : Bool). cond b (starts_at g.first (world g.first run) i k ((world g.first run).nodes i)) (world g.first run)) e) refl refl)
   kind run (FailStart i k) = go ((world g.first run).nodes i) refl
     where
       go : (p : NodeState) → (world g.first run).nodes i ≡ p → Acted run (FailStart i k) ⊎ Still run (FailStart i k)
-      go (Running n) is = inr (same_still run (FailStart i k) Idle (world g.first run) (sym (append-nil (world g.first run).book)) (ap (fails_start g.first (world g.first run) i k) is) refl refl)
-      go (Down kept rest) is = inr (put_still run (FailStart i k) Idle (fails_start g.first (world g.first run) i k (Down kept rest)) (sym (append-nil (world g.first run).book)) i (Down (persistent_after kept (take k rest)) (started i (persistent_after kept (take k rest))).stored) (down_follows (persistent_after kept (take k rest)) (started i (persistent_after kept (take k rest))).stored) (ap (fails_start g.first (world g.first run) i k) is) refl refl)
-  kind run (Clock moment) = inr (same_still run (Clock moment) Idle (record (world g.first run) { moment = max (world g.first run).moment moment }) (sym (append-nil (world g.first run).book)) refl refl refl)
+      go (Running n) is = inr (same_still run (FailStart i k) i Idle (world g.first run) (sym (append-nil (world g.first run).book)) (ap (fails_start g.first (world g.first run) i k) is) refl refl)
+      go (Down kept rest) is = inr (put_still run (FailStart i k) i Idle (fails_start g.first (world g.first run) i k (Down kept rest)) (sym (append-nil (world g.first run).book)) (Down (persistent_after kept (take k rest)) (started i (persistent_after kept (take k rest))).stored) (down_follows (persistent_after kept (take k rest)) (started i (persistent_after kept (take k rest))).stored) (ap (fails_start g.first (world g.first run) i k) is) refl refl)
+  kind run (Clock moment) = inr (same_still run (Clock moment) [] Idle (record (world g.first run) { moment = max (world g.first run).moment moment }) (sym (append-nil (world g.first run).book)) refl refl refl)
 
   -- ---- the counters
 

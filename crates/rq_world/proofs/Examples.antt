@@ -57,14 +57,14 @@ run10 = Then run9 (At (97 ∷ []) (Deliver 5))
 abbrev run12 : Run
 run12 = Then (Then run10 (At (98 ∷ []) (Deliver 6))) (At (97 ∷ []) (Deliver 8))
 
-waits : (world three run12).book ≡ Asked 1 linearizable ∷ []
+waits : (world three run12).book ≡ Asked 1 (97 ∷ []) linearizable ∷ []
 waits = refl
 
-reads : (world three (Then run12 (At (97 ∷ []) Apply))).book ≡ Asked 1 linearizable ∷ Answered 1 (Results []) 1 ∷ []
+reads : (world three (Then run12 (At (97 ∷ []) Apply))).book ≡ Asked 1 (97 ∷ []) linearizable ∷ Answered 1 (Results []) 1 ∷ []
 reads = refl
 
 -- applied, but no probe was answered
-early : (world three (Then run10 (At (97 ∷ []) Apply))).book ≡ Asked 1 linearizable ∷ []
+early : (world three (Then run10 (At (97 ∷ []) Apply))).book ≡ Asked 1 (97 ∷ []) linearizable ∷ []
 early = refl
 
 -- a strong read is entry 2
@@ -78,7 +78,7 @@ commits_strong : commit_of ((world three run13).nodes (97 ∷ [])) ≡ 2
 unfolding spelling.u32_bytes
 commits_strong = refl
 
-reads_strong : (world three (Then (Then run13 (At (97 ∷ []) Apply)) (At (97 ∷ []) Apply))).book ≡ Asked 1 strong ∷ Answered 1 (Results []) 2 ∷ []
+reads_strong : (world three (Then (Then run13 (At (97 ∷ []) Apply)) (At (97 ∷ []) Apply))).book ≡ Asked 1 (97 ∷ []) strong ∷ Answered 1 (Results []) 2 ∷ []
 unfolding spelling.u32_bytes
 reads_strong = refl
 
@@ -86,24 +86,24 @@ reads_strong = refl
 abbrev run14 : Run
 run14 = Then (Then run9 (At (98 ∷ []) Elect)) (At (97 ∷ []) (Deliver 8))
 
-loses : (world three run14).book ≡ Asked 1 linearizable ∷ Answered 1 (Lost 1 2) 0 ∷ []
+loses : (world three run14).book ≡ Asked 1 (97 ∷ []) linearizable ∷ Answered 1 (Lost 1 2) 0 ∷ []
 loses = refl
 
 -- freshness: node 98 heard of its leader at moment 0
 abbrev fresh : ℕ → Run
 fresh moment = Then (Then run8 (Clock moment)) (At (98 ∷ []) (Ask 1 10000 (Read [] level.None (Some 1000))))
 
-within : (world three (fresh 1000)).book ≡ Asked 1 (Read [] level.None (Some 1000)) ∷ Answered 1 (Results []) 0 ∷ []
+within : (world three (fresh 1000)).book ≡ Asked 1 (98 ∷ []) (Read [] level.None (Some 1000)) ∷ Answered 1 (Results []) 0 ∷ []
 within = refl
 
-beyond : (world three (fresh 1001)).book ≡ Asked 1 (Read [] level.None (Some 1000)) ∷ Answered 1 (Stale (Some 0) 1001 1000) 0 ∷ []
+beyond : (world three (fresh 1001)).book ≡ Asked 1 (98 ∷ []) (Read [] level.None (Some 1000)) ∷ Answered 1 (Stale (Some 0) 1001 1000) 0 ∷ []
 beyond = refl
 
 -- an ask that has waited as long as it may
-times_out : (world three (Then (Then run9 (Clock 10000)) (At (97 ∷ []) Tick))).book ≡ Asked 1 linearizable ∷ Answered 1 (Timeout 0 10000) 0 ∷ []
+times_out : (world three (Then (Then run9 (Clock 10000)) (At (97 ∷ []) Tick))).book ≡ Asked 1 (97 ∷ []) linearizable ∷ Answered 1 (Timeout 0 10000) 0 ∷ []
 times_out = refl
 
-waits_still : (world three (Then (Then run9 (Clock 9999)) (At (97 ∷ []) Tick))).book ≡ Asked 1 linearizable ∷ []
+waits_still : (world three (Then (Then run9 (Clock 9999)) (At (97 ∷ []) Tick))).book ≡ Asked 1 (97 ∷ []) linearizable ∷ []
 waits_still = refl
 
 -- a node that is the one voter leads, commits and reads where it stands
@@ -119,7 +119,7 @@ leads_alone = refl
 commits_alone : commit_of ((world alone run2).nodes (97 ∷ [])) ≡ 1
 commits_alone = refl
 
-reads_alone : (world alone (Then (Then run2 (At (97 ∷ []) Apply)) (At (97 ∷ []) (Ask 1 10000 linearizable)))).book ≡ Asked 1 linearizable ∷ Answered 1 (Results []) 1 ∷ []
+reads_alone : (world alone (Then (Then run2 (At (97 ∷ []) Apply)) (At (97 ∷ []) (Ask 1 10000 linearizable)))).book ≡ Asked 1 (97 ∷ []) linearizable ∷ Answered 1 (Results []) 1 ∷ []
 reads_alone = refl
 
 -- ---- a leader that another has followed, and doesn't know it
@@ -153,7 +153,7 @@ replied_again = Then (Then asks_old (At (97 ∷ []) (Deliver 5))) (At (97 ∷ []
 
 -- .. nor time make the pass ready: the weak read answers the old value, the linearizable one is not answered
 deposed : (world three (Then (Then replied_again (Clock 10000)) (At (97 ∷ []) Tick))).book
-    ≡ Asked 1 (Write []) ∷ Answered 1 (Results []) 3 ∷ Asked 2 linearizable ∷ Asked 3 (Read [] level.Weak None) ∷ Answered 3 (Results []) 1 ∷ Answered 2 (Timeout 0 10000) 1 ∷ []
+    ≡ Asked 1 (98 ∷ []) (Write []) ∷ Answered 1 (Results []) 3 ∷ Asked 2 (97 ∷ []) linearizable ∷ Asked 3 (97 ∷ []) (Read [] level.Weak None) ∷ Answered 3 (Results []) 1 ∷ Answered 2 (Timeout 0 10000) 1 ∷ []
 unfolding spelling.u32_bytes
 deposed = refl
 
@@ -166,7 +166,7 @@ abbrev new_leader : Run
 new_leader = Then (Then (Then (Then first_write (Start (99 ∷ []) 0)) (At (98 ∷ []) Elect)) (At (99 ∷ []) (Deliver 9))) (At (98 ∷ []) (Deliver 10))
 
 not_yet : (world three (Then (Then (Then (Then new_leader (At (98 ∷ []) (Ask 2 10000 linearizable))) (At (99 ∷ []) (Deliver 14))) (At (98 ∷ []) (Deliver 15))) (At (98 ∷ []) Apply))).book
-    ≡ Asked 1 (Write []) ∷ Answered 1 (Results []) 2 ∷ Asked 2 linearizable ∷ []
+    ≡ Asked 1 (97 ∷ []) (Write []) ∷ Answered 1 (Results []) 2 ∷ Asked 2 (98 ∷ []) linearizable ∷ []
 unfolding spelling.u32_bytes
 not_yet = refl
 
@@ -176,12 +176,12 @@ not_yet = refl
 abbrev queued2 : Run
 queued2 = Then (Then (Then (Then (Then First (Start (97 ∷ []) 0)) (At (97 ∷ []) Elect)) (At (97 ∷ []) Apply)) (At (97 ∷ []) (Ask 1 10000 (Queue [] false)))) (At (97 ∷ []) (Ask 2 10000 (Queue [] true)))
 
-immediate_answer : (world alone queued2).book ≡ Asked 1 (Queue [] false) ∷ Answered 1 (Queued 1) 1 ∷ Asked 2 (Queue [] true) ∷ []
+immediate_answer : (world alone queued2).book ≡ Asked 1 (97 ∷ []) (Queue [] false) ∷ Answered 1 (Queued 1) 1 ∷ Asked 2 (97 ∷ []) (Queue [] true) ∷ []
 unfolding spelling.u32_bytes
 immediate_answer = refl
 
 -- one entry more, and the second is answered at its apply
-flushes : (world alone (Then (Then queued2 (At (97 ∷ []) Flush)) (At (97 ∷ []) Apply))).book ≡ Asked 1 (Queue [] false) ∷ Answered 1 (Queued 1) 1 ∷ Asked 2 (Queue [] true) ∷ Answered 2 (Queued 2) 2 ∷ []
+flushes : (world alone (Then (Then queued2 (At (97 ∷ []) Flush)) (At (97 ∷ []) Apply))).book ≡ Asked 1 (97 ∷ []) (Queue [] false) ∷ Answered 1 (Queued 1) 1 ∷ Asked 2 (97 ∷ []) (Queue [] true) ∷ Answered 2 (Queued 2) 2 ∷ []
 unfolding spelling.u32_bytes
 flushes = refl
 
@@ -190,7 +190,7 @@ unfolding spelling.u32_bytes
 batch = refl
 
 -- it times out, stays in the queue, and isn't answered again
-late : (world alone (Then (Then (Then (Then queued2 (Clock 10000)) (At (97 ∷ []) Tick)) (At (97 ∷ []) Flush)) (At (97 ∷ []) Apply))).book ≡ Asked 1 (Queue [] false) ∷ Answered 1 (Queued 1) 1 ∷ Asked 2 (Queue [] true) ∷ Answered 2 (Timeout 0 10000) 1 ∷ []
+late : (world alone (Then (Then (Then (Then queued2 (Clock 10000)) (At (97 ∷ []) Tick)) (At (97 ∷ []) Flush)) (At (97 ∷ []) Apply))).book ≡ Asked 1 (97 ∷ []) (Queue [] false) ∷ Answered 1 (Queued 1) 1 ∷ Asked 2 (97 ∷ []) (Queue [] true) ∷ Answered 2 (Timeout 0 10000) 1 ∷ []
 unfolding spelling.u32_bytes
 late = refl
 
@@ -199,7 +199,7 @@ unfolding spelling.u32_bytes
 still_a_batch = refl
 
 -- a stop before the flush loses both, and the numbers begin again
-again : (world alone (Then (Then (Then (Then queued2 (Stop (97 ∷ []) Idle 0)) (Start (97 ∷ []) 0)) (At (97 ∷ []) Elect)) (At (97 ∷ []) (Ask 3 10000 (Queue [] false))))).book ≡ Asked 1 (Queue [] false) ∷ Answered 1 (Queued 1) 1 ∷ Asked 2 (Queue [] true) ∷ Asked 3 (Queue [] false) ∷ Answered 3 (Queued 1) 0 ∷ []
+again : (world alone (Then (Then (Then (Then queued2 (Stop (97 ∷ []) Idle 0)) (Start (97 ∷ []) 0)) (At (97 ∷ []) Elect)) (At (97 ∷ []) (Ask 3 10000 (Queue [] false))))).book ≡ Asked 1 (97 ∷ []) (Queue [] false) ∷ Answered 1 (Queued 1) 1 ∷ Asked 2 (97 ∷ []) (Queue [] true) ∷ Asked 3 (97 ∷ []) (Queue [] false) ∷ Answered 3 (Queued 1) 0 ∷ []
 unfolding spelling.u32_bytes
 again = refl
 
@@ -242,5 +242,5 @@ whole : base_of ((world three (Then beaten (Stop (99 ∷ []) (Deliver 7) 2))).no
 whole = refl
 
 -- its reply makes a pass ready: the read begun before the beat is answered by it
-reads_by_snapshot : (world three (Then (Then (Then (Then (Then (Then (Then run8 (At (97 ∷ []) Apply)) (At (97 ∷ []) Compact)) (Start (99 ∷ []) 0)) (At (97 ∷ []) (Ask 1 10000 linearizable))) (At (97 ∷ []) Beat)) (At (99 ∷ []) (Deliver 9))) (At (97 ∷ []) (Deliver 10)))).book ≡ Asked 1 linearizable ∷ Answered 1 (Results []) 1 ∷ []
+reads_by_snapshot : (world three (Then (Then (Then (Then (Then (Then (Then run8 (At (97 ∷ []) Apply)) (At (97 ∷ []) Compact)) (Start (99 ∷ []) 0)) (At (97 ∷ []) (Ask 1 10000 linearizable))) (At (97 ∷ []) Beat)) (At (99 ∷ []) (Deliver 9))) (At (97 ∷ []) (Deliver 10)))).book ≡ Asked 1 (97 ∷ []) linearizable ∷ Answered 1 (Results []) 1 ∷ []
 reads_by_snapshot = refl

@@ -23,7 +23,7 @@ use Rattle.rq_world.proofs.Prefixes.{begins_get, begins_take_same, get_within}
 -- what a note says is right
 abbrev pub RightNote : List LogEntry → List Note → Option Note → Type 0
 RightNote chosen book None = ⊤
-RightNote chosen book (Some (Asked number op)) = ⊤
+RightNote chosen book (Some (Asked number home op)) = ⊤
 RightNote chosen book (Some (Answered number say place)) = IsRight chosen (op_of book number) say place
 
 abbrev pub AllRight : List LogEntry → List Note → List Note → Type 0
@@ -99,14 +99,14 @@ right_more old new (Some op) (Full held) place more right = tt
 
 pub all_chosen : (old new : List LogEntry) (book notes : List Note) → IsPrefix old new → AllRight old book notes → AllRight new book notes
 all_chosen old new book [] grows all = tt
-all_chosen old new book (Asked number op ∷ notes) grows (first, rest) = (tt, all_chosen old new book notes grows rest)
+all_chosen old new book (Asked number home op ∷ notes) grows (first, rest) = (tt, all_chosen old new book notes grows rest)
 all_chosen old new book (Answered number say place ∷ notes) grows (first, rest) = (right_more old new (op_of book number) say place grows first, all_chosen old new book notes grows rest)
 
 pub op_kept : (book more : List Note) (number : ℕ) (op : Op) → op_of book number ≡ Some op → op_of (book ++ more) number ≡ Some op
 op_kept [] more number op is = absurd (cc)
-op_kept (Asked k o ∷ book) more number op is = at (λ rest. op_kept book more number op rest) (nat_eq k number) refl
+op_kept (Asked k home o ∷ book) more number op is = at (λ rest. op_kept book more number op rest) (nat_eq k number) refl
   where
-    at : (op_of book number ≡ Some op → op_of (book ++ more) number ≡ Some op) → (b : Bool) → nat_eq k number ≡ b → op_of (Asked k o ∷ (book ++ more)) number ≡ Some op
+    at : (op_of book number ≡ Some op → op_of (book ++ more) number ≡ Some op) → (b : Bool) → nat_eq k number ≡ b → op_of (Asked k home o ∷ (book ++ more)) number ≡ Some op
     at on true same = ap (λ (b : Bool). if b then Some o else op_of (book ++ more) number) same ∙ sym (ap (λ (b : Bool). if b then Some o else op_of book number) same) ∙ is
     at on false other =
         ap (λ (b : Bool). if b then Some o else op_of (book ++ more) number) other
@@ -115,9 +115,9 @@ op_kept (Answered k say place ∷ book) more number op is = op_kept book more nu
 
 pub op_behind : (book more : List Note) (number : ℕ) → op_of book number ≡ None → op_of (book ++ more) number ≡ op_of more number
 op_behind [] more number is = refl
-op_behind (Asked k o ∷ book) more number is = at (λ rest. op_behind book more number rest) (nat_eq k number) refl
+op_behind (Asked k home o ∷ book) more number is = at (λ rest. op_behind book more number rest) (nat_eq k number) refl
   where
-    at : (op_of book number ≡ None → op_of (book ++ more) number ≡ op_of more number) → (b : Bool) → nat_eq k number ≡ b → op_of (Asked k o ∷ (book ++ more)) number ≡ op_of more number
+    at : (op_of book number ≡ None → op_of (book ++ more) number ≡ op_of more number) → (b : Bool) → nat_eq k number ≡ b → op_of (Asked k home o ∷ (book ++ more)) number ≡ op_of more number
     at on true same = let e = sym is ∙ ap (λ (b : Bool). if b then Some o else op_of book number) same in absurd (cc)
     at on false other =
         ap (λ (b : Bool). if b then Some o else op_of (book ++ more) number) other
@@ -126,7 +126,7 @@ op_behind (Answered k say place ∷ book) more number is = op_behind book more n
 
 pub all_more : (old new : List LogEntry) (book more notes : List Note) → IsPrefix old new → AllRight old book notes → AllRight new (book ++ more) notes
 all_more old new book more [] grows all = tt
-all_more old new book more (Asked number op ∷ notes) grows (first, rest) = (tt, all_more old new book more notes grows rest)
+all_more old new book more (Asked number home op ∷ notes) grows (first, rest) = (tt, all_more old new book more notes grows rest)
 all_more old new book more (Answered number say place ∷ notes) grows (first, rest) =
     let op = right_op old (op_of book number) say place first in
     let same : op_of (book ++ more) number ≡ op_of book number = op_kept book more number op.0 op.1 ∙ sym op.1 in

@@ -1,5 +1,5 @@
 -- Each ask is answered once: over a whole run a number is answered at most once, and while it waits, at one place of one node, it isn't answered.
-use Rattle.std.proofs.Common.{◌≡◌, ◌≢◌, ◌⊎◌, ◌≤◌, ℕ, zero, suc, ◌+◌, nat_eq, List, [], ◌∷◌, ◌++◌, map, slice_get, Bool, true, false, cond, Option, Some, None, refl, sym, ◌∙◌, ap, subst, inl, inr, ⊎_elim, arith}
+use Rattle.std.proofs.Common.{◌≡◌, ◌≢◌, ◌⊎◌, ◌≤◌, ℕ, zero, suc, ◌+◌, nat_eq, List, [], ◌∷◌, ◌++◌, length, take, map, slice_get, Bool, true, false, cond, Option, Some, None, refl, sym, ◌∙◌, ap, subst, inl, inr, ⊎_elim, arith}
 use Rattle.std.proofs.lemmas.Bool.Decides.{nat_tests}
 use Rattle.std.specs.Prelude.{bytes_eq}
 use Rattle.rq_history.specs.History.{NodeId}
@@ -10,13 +10,13 @@ use Rattle.rq_world.specs.Node.{Node}
 use Rattle.rq_world.specs.World.{Op, Note, Asked, Answered, NodeState, Running, Down, World, Act, Ask, Elect, Beat, Flush, Apply, Compact, Deliver, Tick, Idle, Event, Run as Events, First, Then, note_of, place_of, at_place, world}
 use Rattle.rq_world.specs.Laws.{Runs}
 use Rattle.rq_world.specs.Promise.{op_of, IsNumbered}
-use Rattle.rq_world.specs.Answers.{EachAskIsAnsweredOnce}
+use Rattle.rq_world.specs.Answers.{EachAskIsAnsweredOnce, EachAnswerFollowsItsAsk}
 use Rattle.rq_world.proofs.Tests.{id_true, id_false}
 use Rattle.rq_world.proofs.Given.{Given}
-use Rattle.rq_world.proofs.Histories.{op_kept}
+use Rattle.rq_world.proofs.Histories.{op_kept, op_behind}
 use Rattle.rq_world.proofs.Promises.{sound}
 use Rattle.rq_world.proofs.Passes.{Known}
-use Rattle.rq_world.proofs.Covering.{Acted, Still, kind, t, runs_next, who_runs}
+use Rattle.rq_world.proofs.Covering.{Acted, Still, kind, t, runs_next, who_runs, notes_silent}
 use Rattle.rq_world.proofs.Apart.{new_number}
 use Rattle.rq_world.proofs.Counting.{one, in_answers, in_node, in_act, act_within}
 
@@ -33,12 +33,12 @@ one_other x k e = ap (λ (b : Bool). cond b 1 0) e
 module _ (x : ℕ) where
   abbrev pub in_book : List Note → ℕ
   in_book [] = 0
-  in_book (Asked k op ∷ notes) = in_book notes
+  in_book (Asked k home op ∷ notes) = in_book notes
   in_book (Answered k say place ∷ notes) = one x k + in_book notes
 
   book_both : (a b : List Note) → in_book (a ++ b) ≡ in_book a + in_book b
   book_both [] b = omega arith
-  book_both (Asked k op ∷ a) b = book_both a b
+  book_both (Asked k home op ∷ a) b = book_both a b
   book_both (Answered k say place ∷ a) b = let h = book_both a b in omega (arith, h)
 
   answers_noted : (place : ℕ) (l : List Answer) → in_book (map (λ (answer : Answer). Answered answer.number answer.say place) l) ≡ in_answers x l
@@ -47,13 +47,13 @@ module _ (x : ℕ) where
 
   silent_none : (notes : List Note) → ((m number place : ℕ) (say : Say) → slice_get notes m ≡ Some (Answered number say place) → Prim.⊥) → in_book notes ≡ 0
   silent_none [] silent = refl
-  silent_none (Asked k op ∷ notes) silent = silent_none notes (λ m number place say e. silent (suc m) number place say e)
+  silent_none (Asked k home op ∷ notes) silent = silent_none notes (λ m number place say e. silent (suc m) number place say e)
   silent_none (Answered k say place ∷ notes) silent = absurd (silent zero k place say refl)
 
   found_once : (notes : List Note) (k place : ℕ) (say : Say) → slice_get notes k ≡ Some (Answered x say place) → 1 ≤ in_book notes
   found_once [] k place say e = absurd (cc)
-  found_once (Asked j op ∷ notes) zero place say e = absurd (cc)
-  found_once (Asked j op ∷ notes) (suc k) place say e = found_once notes k place say e
+  found_once (Asked j home op ∷ notes) zero place say e = absurd (cc)
+  found_once (Asked j home op ∷ notes) (suc k) place say e = found_once notes k place say e
   found_once (Answered j other at ∷ notes) zero place say e = let s = one_self x in let same = number_is j other at place say e in let o : one x j ≡ one x x = ap (one x) same in omega (arith, s, o)
     where
       number_is : (j : ℕ) (other : Say) (at place : ℕ) (say : Say) → Some (Answered j other at) ≡ Some (Answered x say place) → j ≡ x
@@ -62,9 +62,9 @@ module _ (x : ℕ) where
 
   found_at : (notes : List Note) (j k place other : ℕ) (say more : Say) → in_book notes ≤ 1 → slice_get notes j ≡ Some (Answered x say place) → slice_get notes k ≡ Some (Answered x more other) → j ≡ k
   found_at [] j k place other say more most a b = absurd (cc)
-  found_at (Asked i op ∷ notes) zero k place other say more most a b = absurd (cc)
-  found_at (Asked i op ∷ notes) (suc j) zero place other say more most a b = absurd (cc)
-  found_at (Asked i op ∷ notes) (suc j) (suc k) place other say more most a b = ap suc (found_at notes j k place other say more most a b)
+  found_at (Asked i home op ∷ notes) zero k place other say more most a b = absurd (cc)
+  found_at (Asked i home op ∷ notes) (suc j) zero place other say more most a b = absurd (cc)
+  found_at (Asked i home op ∷ notes) (suc j) (suc k) place other say more most a b = ap suc (found_at notes j k place other say more most a b)
   found_at (Answered i said at ∷ notes) zero zero place other say more most a b = refl
   found_at (Answered i said at ∷ notes) zero (suc k) place other say more most a b =
       let s = one_self x in
@@ -85,6 +85,22 @@ module _ (x : ℕ) where
   found_at (Answered i said at ∷ notes) (suc j) (suc k) place other say more most a b =
       let rest : in_book notes ≤ 1 = omega (arith, most) in
       ap suc (found_at notes j k place other say more rest a b)
+
+-- ---- prefixes of the book
+
+get_both : (a b : List Note) (k : ℕ) (q : Note) → slice_get (a ++ b) k ≡ Some q → (slice_get a k ≡ Some q) ⊎ ((m : ℕ) × (k ≡ length a + m) × (slice_get b m ≡ Some q))
+get_both [] b k q e = inr (k, omega arith, e)
+get_both (x ∷ a) b zero q e = inl e
+get_both (x ∷ a) b (suc k) q e = ⊎_elim (λ (o : slice_get a k ≡ Some q). inl o) (λ (n : (m : ℕ) × (k ≡ length a + m) × (slice_get b m ≡ Some q)). inr (n.0, omega (arith, n.1), n.2)) (get_both a b k q e)
+
+take_within : (a b : List Note) (k : ℕ) (q : Note) → slice_get a k ≡ Some q → take k (a ++ b) ≡ take k a
+take_within [] b k q e = absurd (cc)
+take_within (x ∷ a) b zero q e = refl
+take_within (x ∷ a) b (suc k) q e = ap (λ (l : List Note). x ∷ l) (take_within a b k q e)
+
+take_beyond : (a b : List Note) (m : ℕ) → take (length a + m) (a ++ b) ≡ a ++ take m b
+take_beyond [] b m = let same : zero + m ≡ m = omega arith in ap (λ (k : ℕ). take k b) same
+take_beyond (x ∷ a) b m = let same : suc (length a) + m ≡ suc (length a + m) = omega arith in ap (λ (k : ℕ). take k (x ∷ (a ++ b))) same ∙ ap (λ (l : List Note). x ∷ l) (take_beyond a b m)
 
 -- ---- sums of numbers
 
@@ -159,7 +175,7 @@ module _ (g : Given) (known : Known g) where
     answers_now : ℕ
     answers_now = in_answers x (t g known run e a).answers
 
-    notes_none : (b : Act) → in_book x (note_of g.first b) ≡ 0
+    notes_none : (b : Act) → in_book x (note_of g.first a.who b) ≡ 0
     notes_none (Ask number timeout op) = refl
     notes_none Elect = refl
     notes_none Beat = refl
@@ -171,7 +187,7 @@ module _ (g : Given) (known : Known g) where
     notes_none Idle = refl
 
     abbrev more : List Note
-    more = note_of g.first a.act ++ at_place g.first (place_of g.first a.node a.act) (t g known run e a).answers
+    more = note_of g.first a.who a.act ++ at_place g.first (place_of g.first a.node a.act) (t g known run e a).answers
 
     book_next : book (Then run e) ≡ book run ++ more
     book_next = ap (λ (w : World). w.book) a.next
@@ -180,7 +196,7 @@ module _ (g : Given) (known : Known g) where
     next_book =
         let is = ap (in_book x) book_next in
         let b = book_both x (book run) more in
-        let c = book_both x (note_of g.first a.act) (at_place g.first (place_of g.first a.node a.act) (t g known run e a).answers) in
+        let c = book_both x (note_of g.first a.who a.act) (at_place g.first (place_of g.first a.node a.act) (t g known run e a).answers) in
         let n = notes_none a.act in
         let l = answers_noted x (place_of g.first a.node a.act) (t g known run e a).answers in
         omega (arith, is, b, c, n, l)
@@ -296,14 +312,14 @@ module _ (g : Given) (known : Known g) where
           );
     }
       where
-        noted : (b : Act) (rest : List Note) → op_of (book run) x ≡ None → op_of (book run ++ (note_of g.first b ++ rest)) x ≡ None → in_act x b ≡ 0
+        noted : (b : Act) (rest : List Note) → op_of (book run) x ≡ None → op_of (book run ++ (note_of g.first a.who b ++ rest)) x ≡ None → in_act x b ≡ 0
         noted (Ask number timeout op) rest was none = go (nat_eq number x) refl
           where
             differ : Some op ≡ None → Prim.⊥
             differ e = cc
 
             go : (b : Bool) → nat_eq number x ≡ b → one x number ≡ 0
-            go true same = absurd (differ (sym (ap (λ (b : Bool). cond b (Some op) (op_of rest x)) same) ∙ sym (Rattle.rq_world.proofs.Histories.op_behind (book run) (Asked number op ∷ rest) x was) ∙ none))
+            go true same = absurd (differ (sym (ap (λ (b : Bool). cond b (Some op) (op_of rest x)) same) ∙ sym (op_behind (book run) (Asked number a.who op ∷ rest) x was) ∙ none))
             go false other = one_other x number other
         noted Elect rest was none = refl
         noted Beat rest was none = refl
@@ -336,3 +352,95 @@ module _ (g : Given) (known : Known g) where
 
   pub answered_once : EachAskIsAnsweredOnce g.first
   answered_once run numbered j k number place other say more a b = found_at number (book run) j k place other say more (single run numbered number).answered a b
+
+  -- ---- an answer stands behind the note of its ask
+
+  abbrev Follows : List Note → Type 0
+  Follows l = (k number place : ℕ) (say : Say) → slice_get l k ≡ Some (Answered number say place) → (op : Op) × (op_of (take k l) number ≡ Some op)
+
+  follows_old : (old more : List Note) → Follows old → (k number place : ℕ) (say : Say) → slice_get old k ≡ Some (Answered number say place) → (op : Op) × (op_of (take k (old ++ more)) number ≡ Some op)
+  follows_old old more before k number place say e = let o = before k number place say e in (o.0, ap (λ (l : List Note). op_of l number) (take_within old more k (Answered number say place) e) ∙ o.1)
+
+  module _ (run : Events) (e : Event) (numbered : IsNumbered g.first (Then run e)) (a : Acted g known run e) (number : ℕ) where
+    -- an ask that is noted now is noted before its answers
+    noted_first : (b : Act) (rest : List Note) (j : ℕ) → in_act number b ≡ 1 → op_of (book run) number ≡ None → (op : Op) × (op_of (book run ++ take (length (note_of g.first a.who b) + j) (note_of g.first a.who b ++ rest)) number ≡ Some op)
+    noted_first (Ask k timeout op) rest j once none = (op, found)
+      where
+        equal : (b : Bool) → nat_eq k number ≡ b → nat_eq k number ≡ true
+        equal true is = is
+        equal false is = let z = one_other number k is in absurd (omega (arith, z, once))
+
+        found : op_of (book run ++ take (1 + j) (Asked k a.who op ∷ rest)) number ≡ Some op
+        found =
+            let next : 1 + j ≡ suc j = omega arith in
+            ap (λ (m : ℕ). op_of (book run ++ take m (Asked k a.who op ∷ rest)) number) next
+            ∙ op_behind (book run) (Asked k a.who op ∷ take j rest) number none
+            ∙ ap (λ (b : Bool). cond b (Some op) (op_of (take j rest) number)) (equal (nat_eq k number) refl)
+    noted_first Elect rest j once none = absurd (omega (arith, once))
+    noted_first Beat rest j once none = absurd (omega (arith, once))
+    noted_first Flush rest j once none = absurd (omega (arith, once))
+    noted_first Apply rest j once none = absurd (omega (arith, once))
+    noted_first Compact rest j once none = absurd (omega (arith, once))
+    noted_first (Deliver k) rest j once none = absurd (omega (arith, once))
+    noted_first Tick rest j once none = absurd (omega (arith, once))
+    noted_first Idle rest j once none = absurd (omega (arith, once))
+
+    abbrev said : List Note
+    said = at_place g.first (place_of g.first a.node a.act) (t g known run e a).answers
+
+    -- what is answered now was asked before, or is asked now
+    follows_new : (j place : ℕ) (say : Say) → Single run number → slice_get said j ≡ Some (Answered number say place) → (op : Op) × (op_of (book run ++ take (length (note_of g.first a.who a.act) + j) (note_of g.first a.who a.act ++ said)) number ≡ Some op)
+    follows_new j place say s at = ⊎_elim
+        (λ (none : in_act number a.act ≡ 0). asked_before none (op_of (book run) number) refl)
+        (λ (new : (op_of (book run) number ≡ None) × (in_act number a.act ≡ 1)). noted_first a.act said j new.1 new.0)
+        (is_asked run e number numbered a s a.act refl)
+      where
+        asked_before : in_act number a.act ≡ 0 → (o : Option Op) → op_of (book run) number ≡ o → (op : Op) × (op_of (book run ++ take (length (note_of g.first a.who a.act) + j) (note_of g.first a.who a.act ++ said)) number ≡ Some op)
+        asked_before none None is =
+            let z = (s.fresh is).1 a.who a.node a.runs in
+            let w = within run e number numbered a s in
+            let f = found_once number said j place say at in
+            let c = answers_noted number (place_of g.first a.node a.act) (t g known run e a).answers in
+            absurd (omega (arith, z, w, f, c, none))
+        asked_before none (Some op) is = (op, op_kept (book run) (take (length (note_of g.first a.who a.act) + j) (note_of g.first a.who a.act ++ said)) number op is)
+
+  acted_follows : (run : Events) (e : Event) → IsNumbered g.first (Then run e) → (a : Acted g known run e) → Follows (book run) → Follows (book (Then run e))
+  acted_follows run e numbered a before = subst Follows (sym (ap (λ (w : World). w.book) a.next)) both
+    where
+      notes : List Note
+      notes = note_of g.first a.who a.act
+
+      both : Follows (book run ++ (note_of g.first a.who a.act ++ said run e numbered a 0))
+      both k number place say at = ⊎_elim
+          (λ (old : slice_get (book run) k ≡ Some (Answered number say place)). follows_old (book run) (note_of g.first a.who a.act ++ said run e numbered a 0) before k number place say old)
+          (λ (n : (m : ℕ) × (k ≡ length (book run) + m) × (slice_get (note_of g.first a.who a.act ++ said run e numbered a 0) m ≡ Some (Answered number say place))). ⊎_elim
+          (λ (o : slice_get (note_of g.first a.who a.act) n.0 ≡ Some (Answered number say place)). absurd (notes_silent g known a.who a.act n.0 number place say o))
+          (λ (x : (j : ℕ) × (n.0 ≡ length (note_of g.first a.who a.act) + j) × (slice_get (said run e numbered a 0) j ≡ Some (Answered number say place))).
+          let f = follows_new run e numbered a number x.0 place say (single run numbered.0 number) x.2 in (
+            f.0,
+            ap (λ (i : ℕ). op_of (take i (book run ++ (note_of g.first a.who a.act ++ said run e numbered a 0))) number) n.1
+                ∙ ap (λ (l : List Note). op_of l number) (take_beyond (book run) (note_of g.first a.who a.act ++ said run e numbered a 0) n.0)
+                ∙ ap (λ (i : ℕ). op_of (book run ++ take i (note_of g.first a.who a.act ++ said run e numbered a 0)) number) x.1
+                ∙ f.1,
+          ))
+          (get_both (note_of g.first a.who a.act) (said run e numbered a 0) n.0 (Answered number say place) n.2))
+          (get_both (book run) (note_of g.first a.who a.act ++ said run e numbered a 0) k (Answered number say place) at)
+
+  still_follows : (run : Events) (e : Event) → Still g known run e → Follows (book run) → Follows (book (Then run e))
+  still_follows run e q before = subst Follows (sym q.book) both
+    where
+      both : Follows (book run ++ q.more)
+      both k number place say at = ⊎_elim
+          (λ (old : slice_get (book run) k ≡ Some (Answered number say place)). follows_old (book run) q.more before k number place say old)
+          (λ (n : (m : ℕ) × (k ≡ length (book run) + m) × (slice_get q.more m ≡ Some (Answered number say place))). absurd (q.silent n.0 number place say n.2))
+          (get_both (book run) q.more k (Answered number say place) at)
+
+  pub follows_ask : EachAnswerFollowsItsAsk g.first
+  follows_ask First numbered k number place say at = absurd (cc)
+  follows_ask (Then run e) numbered k number place say at = ⊎_elim
+      (λ (a : Acted g known run e). acted_follows run e numbered a (follows_ask run numbered.0) k number place say at)
+      (λ (q : Still g known run e). still_follows run e q (follows_ask run numbered.0) k number place say at)
+      (kind g known run e)
+
+  pub answered_once_behind : EachAskIsAnsweredOnce g.first × EachAnswerFollowsItsAsk g.first
+  answered_once_behind = (answered_once, follows_ask)

@@ -136,8 +136,8 @@ module _ (g : Given) (lead_on : LeadOn log_entries g.first) where
   leads_yes Leader e = refl
 
   -- the number that is asked is this ask's
-  pub number_is : (book : List Note) (number : ℕ) (op : Op) (more : List Note) → op_of book number ≡ None → op_of (book ++ Asked number op ∷ more) number ≡ Some op
-  number_is book number op more new = op_behind book (Asked number op ∷ more) number new ∙ ap (λ (b : Bool). cond b (Some op) (op_of more number)) (same number)
+  pub number_is : (book : List Note) (number : ℕ) (asked : NodeId) (op : Op) (more : List Note) → op_of book number ≡ None → op_of (book ++ Asked number asked op ∷ more) number ≡ Some op
+  number_is book number asked op more new = op_behind book (Asked number asked op ∷ more) number new ∙ ap (λ (b : Bool). cond b (Some op) (op_of more number)) (same number)
     where
       same : (k : ℕ) → nat_eq k k ≡ true
       same k = grind arith
@@ -145,7 +145,7 @@ module _ (g : Given) (lead_on : LeadOn log_entries g.first) where
   -- an act of a running member, in whose next world its node is that of this turn
   module _ (run : Events) (i : NodeId) (n : Node) (a : Act) (member : one_of (members g.first) i ≡ true) (up : (world g.first run).nodes i ≡ Running n) (s : Serves (world g.first run).book n) where
     abbrev more : Turn → List Note
-    more t = note_of g.first a ++ at_place g.first (place_of g.first n a) t.answers
+    more t = note_of g.first i a ++ at_place g.first (place_of g.first n a) t.answers
 
     abbrev book : Turn → List Note
     book t = (world g.first run).book ++ more t
@@ -181,13 +181,13 @@ module _ (g : Given) (lead_on : LeadOn log_entries g.first) where
         subst (λ (l : List LogEntry). AllWait (book t) l r.node.term n.waiting) (sym k.1) (subst (λ (u : ℕ). AllWait (book t) n.raft.log u n.waiting) (sym k.0) (still_waits t))
 
     -- a turn of rq_raft that applies nothing, in an act that asks nothing
-    turned_does : (r : RaftTurn LogEntry) → note_of g.first a ≡ [] → LeadsOn log_entries g.first n.raft r → Performs (raft_turn n r)
+    turned_does : (r : RaftTurn LogEntry) → note_of g.first i a ≡ [] → LeadsOn log_entries g.first n.raft r → Performs (raft_turn n r)
     turned_does r none on = if_case Performs (is_leader n.raft.role && not (is_leader r.node.role)) (steps_down n r) (stays_on n r) down stays
       where
         down : (is_leader n.raft.role && not (is_leader r.node.role)) ≡ true → Performs (steps_down n r)
         down e u = record {
           serves = record { database = same_database (steps_down n r) u on.0; waits = tt; pending_reads = tt; queue = still_held (steps_down n r); order = tt; idle = λ q. (refl, refl) };
-          noted = all_both (chosen g.first (next run i a)) (book (steps_down n r)) (note_of g.first a) (at_place g.first (place_of g.first n a) (steps_down n r).answers)
+          noted = all_both (chosen g.first (next run i a)) (book (steps_down n r)) (note_of g.first i a) (at_place g.first (place_of g.first n a) (steps_down n r).answers)
               (subst (AllRight (chosen g.first (next run i a)) (book (steps_down n r))) (sym none) tt)
               (lost_right g.first (chosen g.first (next run i a)) (book (steps_down n r)) n.raft.log n.raft.term (place_of g.first n a) n.raft.term r.node.term n (still_waits (steps_down n r)) (still_reads (steps_down n r)));
         }
@@ -204,14 +204,14 @@ module _ (g : Given) (lead_on : LeadOn log_entries g.first) where
             let k = waits (is_leader n.raft.role) (is_leader r.node.role) refl refl e in
             record {
               serves = record { database = same_database (stays_on n r) u on.0; waits = k.0; pending_reads = still_reads (stays_on n r); queue = still_held (stays_on n r); order = s.order; idle = k.1 };
-              noted = all_both (chosen g.first (next run i a)) (book (stays_on n r)) (note_of g.first a) [] (subst (AllRight (chosen g.first (next run i a)) (book (stays_on n r))) (sym none) tt) tt;
+              noted = all_both (chosen g.first (next run i a)) (book (stays_on n r)) (note_of g.first i a) [] (subst (AllRight (chosen g.first (next run i a)) (book (stays_on n r))) (sym none) tt) tt;
             }
 
     -- the node stays as it is
     idles : (t : Turn) → t.node ≡ n → Serves (book t) t.node
     idles t e = subst (Serves (book t)) (sym e) (record { database = s.database; waits = still_waits t; pending_reads = still_reads t; queue = still_held t; order = s.order; idle = s.idle })
 
-    tick_does : (now : ℕ) → note_of g.first a ≡ [] → Performs (tick n now)
+    tick_does : (now : ℕ) → note_of g.first i a ≡ [] → Performs (tick n now)
     tick_does now none u =
         let t = tick n now in
         record {
@@ -223,15 +223,15 @@ module _ (g : Given) (lead_on : LeadOn log_entries g.first) where
             order = ascends_late now n.waiting s.order;
             idle = λ no. let p = s.idle no in (ap (live_waiting now) p.0, ap (live_reads now) p.1);
           };
-          noted = all_both (chosen g.first (next run i a)) (book t) (note_of g.first a) (at_place g.first (place_of g.first n a) t.answers)
+          noted = all_both (chosen g.first (next run i a)) (book t) (note_of g.first i a) (at_place g.first (place_of g.first n a) t.answers)
               (subst (AllRight (chosen g.first (next run i a)) (book t)) (sym none) tt)
               (late_right g.first (chosen g.first (next run i a)) (book t) n.raft.log n.raft.term (place_of g.first n a) now n (still_waits t) (still_reads t) (still_held t));
         }
 
-    quiet_does : note_of g.first a ≡ [] → Performs (unchanged n)
+    quiet_does : note_of g.first i a ≡ [] → Performs (unchanged n)
     quiet_does none u = record {
       serves = idles (unchanged n) refl;
-      noted = all_both (chosen g.first (next run i a)) (book (unchanged n)) (note_of g.first a) [] (subst (AllRight (chosen g.first (next run i a)) (book (unchanged n))) (sym none) tt) tt;
+      noted = all_both (chosen g.first (next run i a)) (book (unchanged n)) (note_of g.first i a) [] (subst (AllRight (chosen g.first (next run i a)) (book (unchanged n))) (sym none) tt) tt;
     }
 
     -- Reads, where the place of the act's answers is how much its node has applied
@@ -258,7 +258,7 @@ module _ (g : Given) (lead_on : LeadOn log_entries g.first) where
         due = at_place g.first (place_of g.first n a) (due_answers g.first t.node t.node.pending_reads)
 
         more_is : more (reads g.first t) ≡ more t ++ due
-        more_is = ap (λ (l : List Note). note_of g.first a ++ l) (places_both g.first (place_of g.first n a) t.answers (due_answers g.first t.node t.node.pending_reads)) ∙ sym (append_assoc (note_of g.first a) (at_place g.first (place_of g.first n a) t.answers) due)
+        more_is = ap (λ (l : List Note). note_of g.first i a ++ l) (places_both g.first (place_of g.first n a) t.answers (due_answers g.first t.node t.node.pending_reads)) ∙ sym (append_assoc (note_of g.first i a) (at_place g.first (place_of g.first n a) t.answers) due)
 
         book_is : book (reads g.first t) ≡ book t ++ due
         book_is = ap (λ (l : List Note). (world g.first run).book ++ l) more_is ∙ sym (append_assoc (world g.first run).book (more t) due)
@@ -276,7 +276,7 @@ module _ (g : Given) (lead_on : LeadOn log_entries g.first) where
     ask_book op t = book run i n (Ask number timeout op) member up s t
 
     asked_is : (op : Op) (t : Turn) → op_of (ask_book op t) number ≡ Some op
-    asked_is op t = number_is (world g.first run).book number op (at_place g.first n.raft.applied t.answers) new
+    asked_is op t = number_is (world g.first run).book number i op (at_place g.first n.raft.applied t.answers) new
 
     -- the node stays, and says this at once
     says_this : (op : Op) (say : Say) → ((u : IsUp (next run i (Ask number timeout op)) i n.raft) → IsRight (chosen g.first (next run i (Ask number timeout op))) (Some op) say n.raft.applied) → AskDoes op (says n number say)
@@ -588,16 +588,16 @@ module _ (g : Given) (lead_on : LeadOn log_entries g.first) where
 
   -- ---- each moment
 
-  notes_right : (chosen : List LogEntry) (book : List Note) (a : Act) → AllRight chosen book (note_of g.first a)
-  notes_right chosen book (Ask number timeout op) = (tt, tt)
-  notes_right chosen book Elect = tt
-  notes_right chosen book Beat = tt
-  notes_right chosen book Flush = tt
-  notes_right chosen book Apply = tt
-  notes_right chosen book Compact = tt
-  notes_right chosen book (Deliver k) = tt
-  notes_right chosen book Tick = tt
-  notes_right chosen book Idle = tt
+  notes_right : (chosen : List LogEntry) (book : List Note) (i : NodeId) (a : Act) → AllRight chosen book (note_of g.first i a)
+  notes_right chosen book i (Ask number timeout op) = (tt, tt)
+  notes_right chosen book i Elect = tt
+  notes_right chosen book i Beat = tt
+  notes_right chosen book i Flush = tt
+  notes_right chosen book i Apply = tt
+  notes_right chosen book i Compact = tt
+  notes_right chosen book i (Deliver k) = tt
+  notes_right chosen book i Tick = tt
+  notes_right chosen book i Idle = tt
 
   serves_on : (book more : List Note) (n : Node) → Serves book n → Serves (book ++ more) n
   serves_on book more n s = record { database = s.database; waits = wait_more book more n.raft.log n.raft.log n.raft.term n.waiting (begins_same n.raft.log) s.waits; pending_reads = read_more book more n.pending_reads s.pending_reads; queue = held_more book more n.queue s.queue; order = s.order; idle = s.idle }
@@ -625,9 +625,9 @@ module _ (g : Given) (lead_on : LeadOn log_entries g.first) where
   same_world run e next is nodes book s = goes_on run e [] next is s (book ∙ sym (append-nil (world g.first run).book)) tt
       (λ j m up. stays_at run [] s j m (sym (ap (λ (p : NodeId → NodeState). p j) nodes) ∙ up))
 
-  noted_world : (run : Events) (e : Event) (a : Act) → world g.first (Then run e) ≡ noted g.first (world g.first run) a → Sound run → Sound (Then run e)
-  noted_world run e a is s = goes_on run e (note_of g.first a) (noted g.first (world g.first run) a) is s refl
-      (notes_right (chosen g.first (Then run e)) ((world g.first run).book ++ note_of g.first a) a) (λ j m up. stays_at run (note_of g.first a) s j m up)
+  noted_world : (run : Events) (e : Event) (i : NodeId) (a : Act) → world g.first (Then run e) ≡ noted g.first (world g.first run) i a → Sound run → Sound (Then run e)
+  noted_world run e i a is s = goes_on run e (note_of g.first i a) (noted g.first (world g.first run) i a) is s refl
+      (notes_right (chosen g.first (Then run e)) ((world g.first run).book ++ note_of g.first i a) i a) (λ j m up. stays_at run (note_of g.first i a) s j m up)
 
   -- one place changes
   pub place_at : (nodes : NodeId → NodeState) (i j : NodeId) (place : NodeState) (m : Node) → set_node g.first nodes i place j ≡ Running m → ((j ≡ i) × (place ≡ Running m)) ⊎ (nodes j ≡ Running m)
@@ -662,12 +662,12 @@ module _ (g : Given) (lead_on : LeadOn log_entries g.first) where
       (place_at w.nodes i j (Running t.node) x at))
 
   -- a place goes down, or is down
-  down_world : (run : Events) (e : Event) (i : NodeId) (kept : Persistent LogEntry) (rest : List (StoredRecord LogEntry)) (a : Act) (next : World) → world g.first (Then run e) ≡ next → next.nodes ≡ set_node g.first (world g.first run).nodes i (Down kept rest) → next.book ≡ (world g.first run).book ++ note_of g.first a → Sound run → Sound (Then run e)
-  down_world run e i kept rest a next is nodes book s = goes_on run e (note_of g.first a) next is s book
-      (notes_right (chosen g.first (Then run e)) ((world g.first run).book ++ note_of g.first a) a)
+  down_world : (run : Events) (e : Event) (i : NodeId) (kept : Persistent LogEntry) (rest : List (StoredRecord LogEntry)) (a : Act) (next : World) → world g.first (Then run e) ≡ next → next.nodes ≡ set_node g.first (world g.first run).nodes i (Down kept rest) → next.book ≡ (world g.first run).book ++ note_of g.first i a → Sound run → Sound (Then run e)
+  down_world run e i kept rest a next is nodes book s = goes_on run e (note_of g.first i a) next is s book
+      (notes_right (chosen g.first (Then run e)) ((world g.first run).book ++ note_of g.first i a) i a)
       (λ j x at. ⊎_elim
       (λ (p : (j ≡ i) × (Down kept rest ≡ Running x)). absurd (never_up kept rest x p.1))
-      (λ (p : (world g.first run).nodes j ≡ Running x). stays_at run (note_of g.first a) s j x p)
+      (λ (p : (world g.first run).nodes j ≡ Running x). stays_at run (note_of g.first i a) s j x p)
       (place_at (world g.first run).nodes i j (Down kept rest) x (sym (ap (λ (p : NodeId → NodeState). p j) nodes) ∙ at)))
 
   -- a member starts
@@ -686,17 +686,17 @@ module _ (g : Given) (lead_on : LeadOn log_entries g.first) where
     where
       go : (p : NodeState) → (world g.first run).nodes i ≡ p → Sound (Then run (At i a))
       go (Running n) is = acted_world run i a n is new s
-      go (Down kept rest) is = noted_world run (At i a) a (ap (happens_at g.first (world g.first run) i a) is) s
+      go (Down kept rest) is = noted_world run (At i a) i a (ap (happens_at g.first (world g.first run) i a) is) s
   step run (Stop i a k) s new = go ((world g.first run).nodes i) refl
     where
       go : (p : NodeState) → (world g.first run).nodes i ≡ p → Sound (Then run (Stop i a k))
       go (Running n) is = down_world run (Stop i a k) i (persistent_after (persistent_of n) (take k (turn g.first (world g.first run) n a).stored)) [] a (stops_at g.first (world g.first run) i a k (Running n)) (ap (stops_at g.first (world g.first run) i a k) is) refl refl s
-      go (Down kept rest) is = noted_world run (Stop i a k) a (ap (stops_at g.first (world g.first run) i a k) is) s
+      go (Down kept rest) is = noted_world run (Stop i a k) i a (ap (stops_at g.first (world g.first run) i a k) is) s
   step run (Fail i a) s new = go ((world g.first run).nodes i) refl
     where
       go : (p : NodeState) → (world g.first run).nodes i ≡ p → Sound (Then run (Fail i a))
       go (Running n) is = down_world run (Fail i a) i (persistent_of n) (turn g.first (world g.first run) n a).stored a (fails_at g.first (world g.first run) i a (Running n)) (ap (fails_at g.first (world g.first run) i a) is) refl refl s
-      go (Down kept rest) is = noted_world run (Fail i a) a (ap (fails_at g.first (world g.first run) i a) is) s
+      go (Down kept rest) is = noted_world run (Fail i a) i a (ap (fails_at g.first (world g.first run) i a) is) s
   step run (Start i k) s new = by_member (one_of (members g.first) i) refl
     where
       go : (p : NodeState) → one_of (members g.first) i ≡ true → (world g.first run).nodes i ≡ p → world g.first (Then run (Start i k)) ≡ starts_at g.first (world g.first run) i k p → Sound (Then run (Start i k))

@@ -180,17 +180,17 @@ module _ (g : Given) where
     where
       go : (p : NodeState) → w.nodes i ≡ p → Goes choice h (happens_at g.first w i act p)
       go (Running n) is = acted_goes choice h w i n act is f
-      go (Down kept rest) is = same_goes choice h w (noted g.first w act) f refl refl
+      go (Down kept rest) is = same_goes choice h w (noted g.first w i act) f refl refl
   goes choice h w (Stop i act k) f = go (w.nodes i) refl
     where
       go : (p : NodeState) → w.nodes i ≡ p → Goes choice h (stops_at g.first w i act k p)
       go (Running n) is = stopped_goes choice h w i n act k is f
-      go (Down kept rest) is = same_goes choice h w (noted g.first w act) f refl refl
+      go (Down kept rest) is = same_goes choice h w (noted g.first w i act) f refl refl
   goes choice h w (Fail i act) f = go (w.nodes i) refl
     where
       go : (p : NodeState) → w.nodes i ≡ p → Goes choice h (fails_at g.first w i act p)
       go (Running n) is = failed_goes choice h w i n act is f
-      go (Down kept rest) is = same_goes choice h w (noted g.first w act) f refl refl
+      go (Down kept rest) is = same_goes choice h w (noted g.first w i act) f refl refl
   goes choice h w (Start i k) f = by_member (one_of (members g.first) i) f
     where
       go : (p : NodeState) → w.nodes i ≡ p → Fit (choose choice i k) w h → Goes choice h (starts_at g.first w i k p)

@@ -17,7 +17,7 @@ use Rattle.rq_world.specs.Promise.{op_of, IsReadRight, IsAcknowledged, IsNumbere
 -- what was noted before the ask of this number
 abbrev pub before_ask : List Note → ℕ → List Note
 before_ask [] number = []
-before_ask (Asked k op ∷ notes) number = if nat_eq k number then [] else Asked k op ∷ before_ask notes number
+before_ask (Asked k node op ∷ notes) number = if nat_eq k number then [] else Asked k node op ∷ before_ask notes number
 before_ask (Answered k say place ∷ notes) number = Answered k say place ∷ before_ask notes number
 
 -- a write that was acknowledged before the ask of this number has this index

@@ -24,7 +24,7 @@ IsPrefix {T} prefix whole = (rest : List T) × (prefix ++ rest ≡ whole)
 -- what the ask of this number was for
 abbrev pub op_of : List Note → ℕ → Option Op
 op_of [] number = None
-op_of (Asked k op ∷ notes) number = if nat_eq k number then Some op else op_of notes number
+op_of (Asked k node op ∷ notes) number = if nat_eq k number then Some op else op_of notes number
 op_of (Answered k say place ∷ notes) number = op_of notes number
 
 -- the log has this content at this index, and these results are its outcome there

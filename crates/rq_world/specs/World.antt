@@ -16,9 +16,9 @@ pub data Op : Type 0 where
   Queue : (items : List Item) (wait : Bool) → Op  -- a write that may stand in a queue; where it waits, it is answered when it is applied
   Read : (items : List Item) (level : Level) (limit : Option ℕ) → Op  -- at level none with a limit on how long ago the node heard of its leader
 
--- an ask was put to a node, or it was answered at a place: the index of its entry, or how many entries the database had that was read
+-- an ask was put to this node, or it was answered at a place: the index of its entry, or how many entries the database had that was read
 pub data Note : Type 0 where
-  Asked : (number : ℕ) (op : Op) → Note
+  Asked : (number : ℕ) (node : NodeId) (op : Op) → Note
   Answered : (number : ℕ) (say : Say) (place : ℕ) → Note
 
 -- a node runs, or it is down (or wasn't started yet) and keeps what stands in its files;
@@ -82,16 +82,16 @@ module _ (first : List Member) where
   set_node nodes i place j = if bytes_eq j i then place else nodes j
 
   -- what is noted of an act, and of its answers
-  abbrev pub note_of : Act → List Note
-  note_of (Ask number timeout op) = Asked number op ∷ []
-  note_of Elect = []
-  note_of Beat = []
-  note_of Flush = []
-  note_of Apply = []
-  note_of Compact = []
-  note_of (Deliver k) = []
-  note_of Tick = []
-  note_of Idle = []
+  abbrev pub note_of : NodeId → Act → List Note
+  note_of i (Ask number timeout op) = Asked number i op ∷ []
+  note_of i Elect = []
+  note_of i Beat = []
+  note_of i Flush = []
+  note_of i Apply = []
+  note_of i Compact = []
+  note_of i (Deliver k) = []
+  note_of i Tick = []
+  note_of i Idle = []
 
   -- the entry that an apply applies; else how many were applied
   abbrev pub place_of : Node → Act → ℕ
@@ -113,27 +113,27 @@ module _ (first : List Member) where
   acted w i n a t = record w {
     nodes = set_node w.nodes i (Running t.node);
     sent = w.sent ++ t.packets;
-    book = w.book ++ (note_of a ++ at_place (place_of n a) t.answers);
+    book = w.book ++ (note_of i a ++ at_place (place_of n a) t.answers);
   }
 
   -- it went down within it: none of its packets and answers left
   abbrev pub down : World → NodeId → Act → NodeState → World
-  down w i a place = record w { nodes = set_node w.nodes i place; book = w.book ++ note_of a }
+  down w i a place = record w { nodes = set_node w.nodes i place; book = w.book ++ note_of i a }
 
-  abbrev pub noted : World → Act → World
-  noted w a = record w { book = w.book ++ note_of a }
+  abbrev pub noted : World → NodeId → Act → World
+  noted w i a = record w { book = w.book ++ note_of i a }
 
   abbrev pub happens_at : World → NodeId → Act → NodeState → World
   happens_at w i a (Running n) = acted w i n a (turn w n a)
-  happens_at w i a (Down kept rest) = noted w a
+  happens_at w i a (Down kept rest) = noted w i a
 
   abbrev pub stops_at : World → NodeId → Act → ℕ → NodeState → World
   stops_at w i a k (Running n) = down w i a (Down (persistent_after (persistent_of n) (take k (turn w n a).stored)) [])
-  stops_at w i a k (Down kept rest) = noted w a
+  stops_at w i a k (Down kept rest) = noted w i a
 
   abbrev pub fails_at : World → NodeId → Act → NodeState → World
   fails_at w i a (Running n) = down w i a (Down (persistent_of n) (turn w n a).stored)
-  fails_at w i a (Down kept rest) = noted w a
+  fails_at w i a (Down kept rest) = noted w i a
 
   abbrev pub starts_at : World → NodeId → ℕ → NodeState → World
   starts_at w i k (Running n) = w

@@ -2,7 +2,7 @@
 
 ghost use Rattle.std.specs.Prelude.{List};
 ghost use Rattle.rq_wire.specs.declared.config.Member.{Member};
-ghost use Rattle.rq_world.specs.Answers.{EachAskIsAnsweredOnce};
+ghost use Rattle.rq_world.specs.Answers.{EachAskIsAnsweredOnce, EachAnswerFollowsItsAsk};
 ghost use Rattle.rq_world.specs.Appends.{EachAskAppendsOnce, EachWriteHasItsPlace};
 ghost use Rattle.rq_world.specs.Covers.{EachReadCovers};
 ghost use Rattle.rq_world.specs.Laws.{AreSafe};
@@ -123,9 +123,9 @@ pub fn each_ask_appends_once()
     rq_history::laws::later_entries_cover::<LogEntry>();
 }
 
-/// No ask is answered twice, whatever the answers say.
+/// No ask is answered twice, whatever the answers say, and each answer stands in the book behind the note of its ask.
 pub fn each_ask_is_answered_once()
-    ensures { (first : List Member) → EachAskIsAnsweredOnce first }
+    ensures { (first : List Member) → EachAskIsAnsweredOnce first × EachAnswerFollowsItsAsk first }
 {
     rq_raft::laws::turns_are_moves::<LogEntry>();
     rq_raft::laws::leaders_lead_on::<LogEntry>();

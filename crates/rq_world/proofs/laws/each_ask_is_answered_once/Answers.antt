@@ -1,11 +1,11 @@
 use Rattle.std.proofs.Common.{refl}
 use Rattle.rq_raft.specs.Entries.{entry_view}
 use Rattle.rq_world.specs.Node.{log_entries}
-use Rattle.rq_world.proofs.Once.{answered_once}
+use Rattle.rq_world.proofs.Once.{answered_once_behind}
 use Rattle.rq_world.proofs.laws.each_ask_is_answered_once.Goals as goal
 
 pub returns : goal.returns
-returns c = λ first. answered_once (record {
+returns c = λ first. answered_once_behind (record {
   first = first;
   moves = c.turns_are_moves.ensures log_entries first (record { of_term = λ term. refl; plain = λ term. refl });
   one_leader = c.one_leader.ensures (entry_view log_entries);
