@@ -58,19 +58,24 @@ const NOT_IN_PROFILE: [(&[u8], usize, usize); 10] = [
     (b"SELECT 1.5", 7, 10),
 ];
 
+/// Why a text spells no statement.
+fn refusal(alloc: Global, text: &[u8]) -> Option<ReadError> {
+    match read(alloc, text) {
+        Ok(stmt) => {
+            drop(stmt);
+            None
+        }
+        Err(error) => Some(error),
+    }
+}
+
 #[test]
 fn texts_and_their_refusals(rt: HostRuntime) -> Result<(), Fail> {
     for &(text, from, to) in &NEAR {
-        assert_eq!(rt;
-            read(rt.alloc(), text).err(),
-            Some(ReadError::Near { from, to })
-        );
+        assert!(rt; refusal(rt.alloc(), text) == Some(ReadError::Near { from, to }));
     }
     for &(text, from, to) in &NOT_IN_PROFILE {
-        assert_eq!(rt;
-            read(rt.alloc(), text).err(),
-            Some(ReadError::NotInProfile { from, to })
-        );
+        assert!(rt; refusal(rt.alloc(), text) == Some(ReadError::NotInProfile { from, to }));
     }
     Ok(())
 }
@@ -186,49 +191,60 @@ fn text_of(alloc: Global, long: &Long) -> Result<String, Fail> {
     Ok(text)
 }
 
+fn long_refusal(alloc: Global, long: &Long) -> Result<Option<ReadError>, Fail> {
+    let text = text_of(alloc, long)?;
+    let refusal = refusal(alloc, text.as_bytes());
+    drop(text);
+    Ok(refusal)
+}
+
 #[test]
 fn both_sides_of_the_limits(rt: HostRuntime) -> Result<(), Fail> {
     for long in &LONG {
-        let text = text_of(rt.alloc(), long)?;
-        assert_eq!(rt; read(rt.alloc(), text.as_bytes()).err(), long.refusal);
+        assert!(rt; long_refusal(rt.alloc(), long)? == long.refusal);
     }
     Ok(())
 }
 
 const MOST: usize = 4_194_304;
 
-/// `SELECT ` and then a byte again and again.
-fn filled(alloc: Global, byte: u8, size: usize) -> Result<Vec<u8>, Fail> {
+/// Why a text of so many bytes, `SELECT ` and then one byte again and again, spells no statement.
+fn filled_refusal(alloc: Global, byte: u8, size: usize) -> Result<Option<ReadError>, Fail> {
     let mut text = b"SELECT ".to_vec(alloc)?;
-    text.extend_from_slice(&vec![in alloc; byte; size]?)?;
-    Ok(text)
+    let filled = text.resize(size, byte);
+    let refusal = refusal(alloc, &text);
+    drop(text);
+    filled?;
+    Ok(refusal)
 }
+
+/// The byte behind `SELECT `, the text's length, and the refusal.
+const LONGEST: [(u8, usize, ReadError); 4] = [
+    (b'(', MOST, ReadError::TooDeep(257)),
+    (
+        b'+',
+        400_007,
+        ReadError::Near {
+            from: 400_007,
+            to: 400_007,
+        },
+    ),
+    (
+        b' ',
+        MOST,
+        ReadError::Near {
+            from: MOST,
+            to: MOST,
+        },
+    ),
+    (b' ', MOST + 1, ReadError::TooLong(MOST + 1)),
+];
 
 /// Long texts are read with no stack to speak of, up to the longest; one more byte is refused.
 #[test]
 fn the_longest_texts(rt: HostRuntime) -> Result<(), Fail> {
-    for (byte, size, refusal) in [
-        (b'(', MOST - 7, ReadError::TooDeep(257)),
-        (
-            b'+',
-            400_000,
-            ReadError::Near {
-                from: 400_007,
-                to: 400_007,
-            },
-        ),
-        (
-            b' ',
-            MOST - 7,
-            ReadError::Near {
-                from: MOST,
-                to: MOST,
-            },
-        ),
-        (b' ', MOST - 6, ReadError::TooLong(MOST + 1)),
-    ] {
-        let text = filled(rt.alloc(), byte, size)?;
-        assert_eq!(rt; read(rt.alloc(), &text).err(), Some(refusal));
+    for &(byte, size, refusal) in &LONGEST {
+        assert!(rt; filled_refusal(rt.alloc(), byte, size)? == Some(refusal));
     }
     Ok(())
 }
