@@ -25,36 +25,26 @@ const ELECTED: &[u8] = b"\x01RQWAL\x01\x01\0\0\0\0\0\0\0\x59\0\0\0\0\0\0\0\
 \x01\x02\x15\0\0\0\x01\0\0\0\0\0\0\0\x01\0\0\0\x01\0\0\0\0\0\0\0\0\0";
 
 fn addr(alloc: Global, bytes: &[u8]) -> Result<Addr, Fail> {
-    Ok(
-        Addr::new(alloc, bytes)
-            .ok()
-            .ok_or("memory")?
-            .ok_or("address")?,
-    )
+    Ok(Addr::new(alloc, bytes)?.ok_or("address")?)
 }
 
 fn members(alloc: Global) -> Result<Seq<Member>, Fail> {
     let http = addr(alloc, b"n1:4001")?;
     let raft = addr(alloc, b"n1:4002")?;
     let mut members = Seq::new(alloc);
-    members
-        .push(Member {
-            id: Id::new(b"n1").ok_or("id")?,
-            voter: true,
-            http,
-            raft,
-        })
-        .ok()
-        .ok_or("memory")?;
+    members.push(Member {
+        id: Id::new(b"n1").ok_or("id")?,
+        voter: true,
+        http,
+        raft,
+    })?;
     Ok(members)
 }
 
 fn first_base(alloc: Global) -> Result<Base, Fail>
     ensures { IfOk result (λ base. IsBase base) }
 {
-    let state = Bytes::new(alloc, b"\x01\0\0\0\0\0\0\0\0\x01\0\0\0\x02\0\0\0n1")
-        .ok()
-        .ok_or("memory")?;
+    let state = Bytes::new(alloc, b"\x01\0\0\0\0\0\0\0\0\x01\0\0\0\x02\0\0\0n1")?;
     Ok(Base {
         term: 0,
         vote: None,
@@ -72,7 +62,7 @@ fn election_frames(alloc: Global) -> Result<Vec<Frame>, Fail> {
         term: 1,
         body: Body::NoOp,
     };
-    entries.push(entry).ok().ok_or("memory")?;
+    entries.push(entry)?;
     let mut frames = Vec::new(alloc);
     frames.push(Frame::Vote {
         term: 1,
@@ -83,9 +73,9 @@ fn election_frames(alloc: Global) -> Result<Vec<Frame>, Fail> {
 }
 
 fn content(alloc: Global, pair: &mut DiskPair<MemDisk>) -> Result<Vec<u8>, Fail> {
-    let len = pair.len(FileNo::One).ok().ok_or("len")?;
+    let len = pair.len(FileNo::One)?;
     let mut bytes = vec![in alloc; 0u8; len as usize]?;
-    pair.read(FileNo::One, 0, &mut bytes).ok().ok_or("read")?;
+    pair.read(FileNo::One, 0, &mut bytes)?;
     Ok(bytes)
 }
 
@@ -93,7 +83,7 @@ fn content(alloc: Global, pair: &mut DiskPair<MemDisk>) -> Result<Vec<u8>, Fail>
 fn pair_of(alloc: Global, bytes: &[u8]) -> Result<DiskPair<MemDisk>, Fail> {
     let one = MemDisk::new(alloc, bytes.to_vec(alloc)?, Vec::new(alloc));
     let two = MemDisk::new(alloc, Vec::new(alloc), Vec::new(alloc));
-    Ok(DiskPair::new(one.ok().ok_or("memory")?, two.ok().ok_or("memory")?))
+    Ok(DiskPair::new(one?, two?))
 }
 
 fn opened_pair(
@@ -134,7 +124,7 @@ fn file_of_n1(
     let boot = [Frame::Boot { boot: 1 }];
     let wal = begun(alloc, disks, &first, &boot, more);
     drop((first, boot));
-    let gate = wal.ok().ok_or("begun")?.end();
+    let gate = wal?.end();
     Ok((content(alloc, disks)?, gate))
 }
 
@@ -157,7 +147,7 @@ fn the_file_of_n1_byte_for_byte(rt: HostRuntime) -> Result<(), Fail> {
     let is = file_is(alloc, &election, ELECTED, 174);
     drop(election);
     assert!(rt; is?);
-    assert_eq!(rt; (STARTED.len(), ELECTED.len()), (127, 175));
+    assert!(rt; (STARTED.len(), ELECTED.len()) == (127, 175));
     Ok(())
 }
 
@@ -180,7 +170,7 @@ fn opened(alloc: Global, bytes: &[u8]) -> Result<Result<(u64, u64), OpenError>, 
 #[test]
 fn a_damaged_file(rt: HostRuntime) -> Result<(), Fail> {
     let alloc = rt.alloc();
-    assert_eq!(rt; opened(alloc, STARTED)?, Ok((1, 126)));
+    assert!(rt; opened(alloc, STARTED)? == Ok((1, 126)));
     for (place, byte, answer) in [
         (
             113,
@@ -201,7 +191,7 @@ fn a_damaged_file(rt: HostRuntime) -> Result<(), Fail> {
         }
         let found = opened(alloc, &bytes);
         drop(bytes);
-        assert_eq!(rt; found?, answer);
+        assert!(rt; found? == answer);
     }
     Ok(())
 }
@@ -209,7 +199,7 @@ fn a_damaged_file(rt: HostRuntime) -> Result<(), Fail> {
 #[test]
 fn a_file_cut_at_each_length(rt: HostRuntime) -> Result<(), Fail> {
     let alloc = rt.alloc();
-    assert_eq!(rt; opened(alloc, STARTED)?, Ok((1, 126)));
+    assert!(rt; opened(alloc, STARTED)? == Ok((1, 126)));
     for len in 0..STARTED.len() {
         let answer = if len < 23 {
             Ok((0, 112))
@@ -220,7 +210,7 @@ fn a_file_cut_at_each_length(rt: HostRuntime) -> Result<(), Fail> {
                 byte: None,
             })
         };
-        assert_eq!(rt; opened(alloc, &STARTED[..len])?, answer);
+        assert!(rt; opened(alloc, &STARTED[..len])? == answer);
     }
     Ok(())
 }

@@ -10,7 +10,7 @@ use std::test::Fail;
 
 fn mem_disk(alloc: Global, bytes: &[u8], fails: &[u64]) -> Result<MemDisk, Fail> {
     let disk = MemDisk::new(alloc, bytes.to_vec(alloc)?, fails.to_vec(alloc)?);
-    Ok(disk.ok().ok_or("memory")?)
+    Ok(disk?)
 }
 
 // A pair that is armed with so many calls, and then written to: five bytes in file one and two in file two, each synced.
@@ -18,15 +18,11 @@ fn mem_disk(alloc: Global, bytes: &[u8], fails: &[u64]) -> Result<MemDisk, Fail>
 fn stopped(alloc: Global, calls: u64, pick: u8) -> Result<(DiskPair<MemDisk>, bool, bool), Fail>
     requires { pick < 4 }
 {
-    let one = MemDisk::new(alloc, b"abcdef".to_vec(alloc)?, Vec::new(alloc))
-        .ok()
-        .ok_or("memory")?;
-    let two = MemDisk::new(alloc, Vec::new(alloc), Vec::new(alloc))
-        .ok()
-        .ok_or("memory")?;
+    let one = MemDisk::new(alloc, b"abcdef".to_vec(alloc)?, Vec::new(alloc))?;
+    let two = MemDisk::new(alloc, Vec::new(alloc), Vec::new(alloc))?;
     let mut pair = DiskPair::new(one, two);
-    pair.ready(FileNo::One, 5, 2).ok().ok_or("memory")?;
-    pair.ready(FileNo::Two, 2, 2).ok().ok_or("memory")?;
+    pair.ready(FileNo::One, 5, 2)?;
+    pair.ready(FileNo::Two, 2, 2)?;
     pair.arm(calls);
     let _ = pair.write_at(FileNo::One, 3, b"VWXYZ");
     let _ = pair.sync(FileNo::One);
@@ -38,9 +34,9 @@ fn stopped(alloc: Global, calls: u64, pick: u8) -> Result<(DiskPair<MemDisk>, bo
 }
 
 fn content<D: Disk>(alloc: Global, pair: &mut DiskPair<D>, file: FileNo) -> Result<Vec<u8>, Fail> {
-    let len = pair.len(file).ok().ok_or("len")?;
+    let len = pair.len(file)?;
     let mut bytes = vec![in alloc; 0u8; len as usize]?;
-    pair.read(file, 0, &mut bytes).ok().ok_or("read")?;
+    pair.read(file, 0, &mut bytes)?;
     Ok(bytes)
 }
 
@@ -136,11 +132,11 @@ fn sources(rt: HostRuntime) -> Result<(), Fail> {
     let mut source = MemSource::new(b"abc".to_vec(alloc)?, vec![in alloc; 2u64]?);
     let reads = four_reads(&mut source);
     drop(source);
-    assert_eq!(rt; reads, [Ok(2), Err(Failed), Ok(1), Ok(0)]);
+    assert!(rt; reads == [Ok(2), Err(Failed), Ok(1), Ok(0)]);
     let mut source = SureSource::new(b"abc".to_vec(alloc)?);
     let reads = four_reads(&mut source);
     drop(source);
-    assert_eq!(rt; reads, [Ok(2), Ok(1), Ok(0), Ok(0)]);
+    assert!(rt; reads == [Ok(2), Ok(1), Ok(0), Ok(0)]);
     Ok(())
 }
 
@@ -151,13 +147,13 @@ fn sinks(rt: HostRuntime) -> Result<(), Fail> {
     let writes = three_writes(&mut sink);
     let is_taken = sink.bytes() == b"abcabef".as_slice();
     drop(sink);
-    assert_eq!(rt; writes, [Ok(2), Err(SinkError::Failed), Ok(2)]);
+    assert!(rt; writes == [Ok(2), Err(SinkError::Failed), Ok(2)]);
     assert!(rt; is_taken);
     let mut sink = SureSink::new(b"abc".to_vec(alloc)?);
     let writes = three_writes(&mut sink);
     let is_taken = sink.bytes() == b"abcabcdef".as_slice();
     drop(sink);
-    assert_eq!(rt; writes, [Ok(2), Ok(2), Ok(2)]);
+    assert!(rt; writes == [Ok(2), Ok(2), Ok(2)]);
     assert!(rt; is_taken);
     Ok(())
 }
@@ -169,16 +165,14 @@ fn disks(rt: HostRuntime) -> Result<(), Fail> {
     let lengths = three_lengths(&mut disk);
     let (is_kept, fault) = (disk.bytes() == b"abc".as_slice(), disk.fault());
     drop(disk);
-    assert_eq!(rt; lengths, [Ok(3), Err(Failed), Ok(3)]);
-    assert_eq!(rt; (is_kept, fault), (true, Some(())));
-    let mut disk = SureDisk::new(alloc, b"abc".to_vec(alloc)?)
-        .ok()
-        .ok_or("memory")?;
+    assert!(rt; lengths == [Ok(3), Err(Failed), Ok(3)]);
+    assert!(rt; (is_kept, fault) == (true, Some(())));
+    let mut disk = SureDisk::new(alloc, b"abc".to_vec(alloc)?)?;
     let lengths = three_lengths(&mut disk);
     let (is_kept, fault) = (disk.bytes() == b"abc".as_slice(), disk.fault());
     drop(disk);
-    assert_eq!(rt; lengths, [Ok(3), Ok(3), Ok(3)]);
-    assert_eq!(rt; (is_kept, fault), (true, None));
+    assert!(rt; lengths == [Ok(3), Ok(3), Ok(3)]);
+    assert!(rt; (is_kept, fault) == (true, None));
     Ok(())
 }
 
@@ -190,12 +184,12 @@ fn clocks(rt: HostRuntime) -> Result<(), Fail> {
     let moments = four_moments(&mut clock);
     let after = clock.fault();
     drop(clock);
-    assert_eq!(rt; (before, after), (None, Some(())));
-    assert_eq!(rt; moments, [Ok(7), Err(Failed), Ok(9), Err(Failed)]);
+    assert!(rt; (before, after) == (None, Some(())));
+    assert!(rt; moments == [Ok(7), Err(Failed), Ok(9), Err(Failed)]);
     let mut clock = SureClock::new(vec![in alloc; 7u64, 9]?);
     let moments = four_moments(&mut clock);
     drop(clock);
-    assert_eq!(rt; moments, [Ok(7), Ok(9), Ok(9), Ok(9)]);
+    assert!(rt; moments == [Ok(7), Ok(9), Ok(9), Ok(9)]);
     Ok(())
 }
 
@@ -212,18 +206,18 @@ fn draws(rt: HostRuntime) -> Result<(), Fail> {
     let mut draws = ScriptDraws::new(vec![in alloc; 7u64, 9]?, vec![in alloc; 2u64]?);
     let words = four_words(&mut draws);
     drop(draws);
-    assert_eq!(rt; words, [Ok(7), Err(Failed), Ok(9), Err(Failed)]);
+    assert!(rt; words == [Ok(7), Err(Failed), Ok(9), Err(Failed)]);
     assert_eq!(rt;
         sure_words(vec![in alloc; 7u64, 9]?),
         [Ok(7), Ok(9), Ok(9), Ok(9)]
     );
-    assert_eq!(rt; sure_words(Vec::new(alloc)), [Ok(0), Ok(0), Ok(0), Ok(0)]);
+    assert!(rt; sure_words(Vec::new(alloc)) == [Ok(0), Ok(0), Ok(0), Ok(0)]);
     Ok(())
 }
 
 #[test]
 fn words(rt: HostRuntime) -> Result<(), Fail> {
-    let word = Word::new(rt.alloc(), b"cluster").ok().ok_or("memory")?;
+    let word = Word::new(rt.alloc(), b"cluster")?;
     let is_same = word.bytes() == b"cluster".as_slice();
     drop(word);
     assert!(rt; is_same);

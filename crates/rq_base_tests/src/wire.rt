@@ -33,7 +33,7 @@ fn a_configuration_and_its_bytes(rt: HostRuntime) -> Result<(), Fail> {
     let is_spelled = encode_config(&config, &mut spelled).is_ok() && spelled.as_slice() == CONFIG;
     let votes = quorum(&config);
     drop((config, spelled));
-    assert_eq!(rt; (is_spelled, votes), (true, 1));
+    assert!(rt; (is_spelled, votes) == (true, 1));
     Ok(())
 }
 
@@ -49,7 +49,7 @@ fn is_spelled(alloc: Global, entry: &Entry, bytes: &[u8]) -> Result<bool, Fail> 
     let mut spelled = Vec::new(alloc);
     let is_same = encode_entry(entry, &mut spelled).is_ok() && spelled.as_slice() == bytes;
     drop(spelled);
-    let read = decode_entry(alloc, bytes).ok().ok_or("refused")?;
+    let read = decode_entry(alloc, bytes)?;
     let is_read = read == *entry;
     drop(read);
     Ok(is_same && is_read && is_copied(alloc, entry)?)
@@ -103,7 +103,7 @@ fn faults_and_their_places(rt: HostRuntime) -> Result<(), Fail> {
             WireError::Order(29),
         ),
     ] {
-        assert_eq!(rt; refusal(alloc, bytes), Some(error));
+        assert!(rt; refusal(alloc, bytes) == Some(error));
     }
     Ok(())
 }
