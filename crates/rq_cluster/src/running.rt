@@ -1,9 +1,14 @@
 // The top call: words, then the script of a source.
 ghost use Rattle.std.specs.Prelude.{◌≡◌, ◌≤◌, ◌⊎◌, ◌++◌, [], List, ℕ, IsTrue, IsSome, Some, None};
 ghost use Rattle.rq_outside.specs.Counts.{Rose};
-ghost use Rattle.rq_script.specs.Cluster.{Server, Cluster, Steps};
+ghost use Rattle.rq_node.specs.Node.{Node};
+ghost use Rattle.rq_script.specs.Answering.{AppliesAnswerAll};
+ghost use Rattle.rq_script.specs.Cluster.{Server, Cluster, Steps, unanswered};
+ghost use Rattle.rq_script.specs.FromAsks.{IsAsked};
 ghost use Rattle.rq_script.specs.History.{history, node_in, notes_of};
 ghost use Rattle.rq_script.specs.Lines.{Line, IsWithin};
+ghost use Rattle.rq_script.specs.Numbering.{AreNumbered};
+ghost use Rattle.rq_script.specs.OpenAsks.{Opens};
 ghost use Rattle.rq_script.specs.Promise.{IsKept, Keeps, Grows};
 ghost use Rattle.rq_script.specs.Runs.{Runs};
 ghost use Rattle.rq_script.specs.ScriptLine.{line_of};
@@ -21,7 +26,8 @@ use crate::standing::shown_clusters_stand;
 use crate::words::{first_wrong, refuse};
 use rq_outside::{CrashDisk, DiskPair, Draws, Sink, Source, Word};
 use rq_script::laws::{
-    answers_are_noted, each_moment_is_kept, reads_see_what_was_applied, the_one_log_grows,
+    answers_are_noted, applies_answer_all, asks_are_numbered, each_list_was_asked_once,
+    each_moment_is_kept, pending_asks_are_open, reads_see_what_was_applied, the_one_log_grows,
     what_was_chosen_is_kept,
 };
 use rq_settle::each_text_is_prepared;
@@ -95,6 +101,12 @@ pub fn cluster_main<S: Source, K: Sink, D: CrashDisk, R: Draws>(
     ensures kept { (lines : List Line) (text : List ℕ) (c : Cluster) (run : Runs lines text c) (s : Server) → c.server ≡ Some s → IsKept (history run).chosen s.stand }
     ensures grows { (lines : List Line) (text : List ℕ) (c : Cluster) (run : Runs lines text c) (l : Line) (more : List ℕ) (next : Cluster) (within : IsWithin l) (steps : Steps c l.text more next) →
         Grows (history run) (history (Runs.line l more next run within steps)) }
+    // Asks are numbered one by one; each is open from when it is put until it is answered, once; and what is pending is what is open.
+    ensures numbered { (lines : List Line) (text : List ℕ) (c : Cluster) (run : Runs lines text c) → AreNumbered 0 (history run).book c.asks }
+    ensures pending { (lines : List Line) (text : List ℕ) (c : Cluster) (run : Runs lines text c) → Opens [] (history run).book (unanswered c.server) }
+    // Each list in a log was asked as a write, each at most once, answered or not; and an apply answers all that wait there.
+    ensures asked { (lines : List Line) (text : List ℕ) (c : Cluster) (run : Runs lines text c) (s : Server) → c.server ≡ Some s → IsAsked (history run).book c.asks s.stand }
+    ensures applied { (lines : List Line) (text : List ℕ) (c : Cluster) (run : Runs lines text c) (n : Node) → node_in c ≡ Some n → AppliesAnswerAll n }
     // The answers that a line writes are those that are noted of it, and a read sees all that its node had applied.
     ensures noted { (c : Cluster) (bytes text : List ℕ) (next : Cluster) (steps : Steps c bytes text next) → Tells text (notes_of c (line_of bytes) steps.0.items steps.0.course) }
     ensures reads { (c : Cluster) (bytes text : List ℕ) (next : Cluster) (steps : Steps c bytes text next) → ReadsSeeApplied c (notes_of c (line_of bytes) steps.0.items steps.0.course) }
@@ -105,6 +117,10 @@ pub fn cluster_main<S: Source, K: Sink, D: CrashDisk, R: Draws>(
     each_moment_is_kept();
     what_was_chosen_is_kept();
     the_one_log_grows();
+    asks_are_numbered();
+    pending_asks_are_open();
+    each_list_was_asked_once();
+    applies_answer_all();
     answers_are_noted();
     reads_see_what_was_applied();
     match first_wrong(words) {
