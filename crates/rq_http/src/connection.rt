@@ -11,7 +11,7 @@ ghost use Rattle.rq_http.specs.declared.connection.ServeError.TheVariants.{Read 
 
 use crate::giving::give;
 use crate::head::Refusal;
-use crate::incoming::{Asked, Next, ReadError, next_request};
+use crate::incoming::{Asked, Next, READ, ReadError, next_request};
 use crate::port::{Port, Reply};
 use crate::response::response_bytes;
 use rq_outside::{Sink, SinkError, Source};
@@ -205,6 +205,7 @@ fn serve_next<S: Source, K: Sink, P: Port>(
     held: &mut Vec<u8>,
     count: u64,
     source: &mut S,
+    buffer: &mut [u8; READ],
     sink: &mut K,
     port: &mut P,
 ) -> Result<Turn, ServeError>
@@ -220,7 +221,7 @@ fn serve_next<S: Source, K: Sink, P: Port>(
     ensures write { IsErrOf result ServeWrite → Rose (K.faults sink.old) (K.faults sink.new) }
     ensures port { IsErrOf result ServePort → Rose (P.faults port.old) (P.faults port.new) }
 {
-    match next_request(held, source) {
+    match next_request(held, source, buffer) {
         Ok(Next::Request(asked)) => {
             match serve_request(alloc, held, asked, count, sink, port) {
                 Ok(Turn::On) => Ok(Turn::On),
@@ -253,9 +254,10 @@ pub fn serve_connection<S: Source, K: Sink, P: Port>(
     ensures port { IsErrOf result ServePort → Rose (P.faults port.old) (P.faults port.new) }
 {
     let mut held = Vec::new(alloc);
+    let mut buffer = [0u8; READ];
     let mut count = 0;
     'serving: loop {
-        match serve_next(alloc, &mut held, count, source, sink, port) {
+        match serve_next(alloc, &mut held, count, source, &mut buffer, sink, port) {
             Ok(Turn::On) => count += 1,
             Ok(Turn::End(served)) => return Ok(served),
             Err(error) => return Err(error),

@@ -18,6 +18,9 @@ use rq_outside::Source;
 /// The longest head, in bytes.
 pub const MAX_HEAD: usize = 16_384;
 
+/// What one read brings at most, in bytes.
+pub const READ: usize = 4096;
+
 /// Why no bytes came.
 #[derive(Clone, Copy)]
 pub enum ReadError {
@@ -45,7 +48,11 @@ pub enum Next {
 }
 
 /// Holds what the source gives in one read, behind what is held, and answers how many bytes.
-pub fn read_more<S: Source>(held: &mut Vec<u8>, source: &mut S) -> Result<usize, ReadError>
+pub fn read_more<S: Source>(
+    held: &mut Vec<u8>,
+    source: &mut S,
+    buffer: &mut [u8; READ],
+) -> Result<usize, ReadError>
     ensures came { OnOk result (Came S.told (S.left source.old) (S.left source.new) held.old.items held.new.items) }
     ensures count { IfOk result (λ n. length held.new.items ≡ length held.old.items + n) }
     ensures most { length held.new.items ≤ length held.old.items + 4096 }
@@ -53,8 +60,7 @@ pub fn read_more<S: Source>(held: &mut Vec<u8>, source: &mut S) -> Result<usize,
     ensures later { S.faults source.old ≤ S.faults source.new }
     ensures cause { IsErrOf result ReadFailed → Rose (S.faults source.old) (S.faults source.new) }
 {
-    let mut buffer = [0u8; 4096];
-    match source.read(&mut buffer) {
+    match source.read(buffer) {
         Ok(count) => match held.extend_from_slice(&buffer[..count]) {
             Ok(()) => Ok(count),
             Err(_) => Err(ReadError::NoMemory),
@@ -80,7 +86,11 @@ fn scan_on(held: &[u8], scanned: usize, place: Place) -> Front
 }
 
 /// Reads up to the end of the head at the front.
-pub fn find_head<S: Source>(held: &mut Vec<u8>, source: &mut S) -> Result<Front, ReadError>
+pub fn find_head<S: Source>(
+    held: &mut Vec<u8>,
+    source: &mut S,
+    buffer: &mut [u8; READ],
+) -> Result<Front, ReadError>
     requires { length held.old.items ≤ 4096 }
     ensures came { OnOk result (Came S.told (S.left source.old) (S.left source.new) held.old.items held.new.items) }
     ensures found { IfOk result (IsFound held.new.items) }
@@ -102,7 +112,7 @@ pub fn find_head<S: Source>(held: &mut Vec<u8>, source: &mut S) -> Result<Front,
             return Ok(Front::Broken);
         }
         scanned = held.len();
-        match read_more(held, source) {
+        match read_more(held, source, buffer) {
             Ok(0) => return Ok(Front::Part(place)),
             Ok(_) => {}
             Err(error) => return Err(error),
@@ -111,7 +121,12 @@ pub fn find_head<S: Source>(held: &mut Vec<u8>, source: &mut S) -> Result<Front,
 }
 
 /// Reads until so many bytes are held, and answers whether they are.
-pub fn fill<S: Source>(held: &mut Vec<u8>, source: &mut S, size: usize) -> Result<bool, ReadError>
+pub fn fill<S: Source>(
+    held: &mut Vec<u8>,
+    source: &mut S,
+    buffer: &mut [u8; READ],
+    size: usize,
+) -> Result<bool, ReadError>
     requires { length held.old.items ≤ size + 4096 }
     ensures most { length held.new.items ≤ size + 4096 }
     ensures came { OnOk result (Came S.told (S.left source.old) (S.left source.new) held.old.items held.new.items) }
@@ -121,7 +136,7 @@ pub fn fill<S: Source>(held: &mut Vec<u8>, source: &mut S, size: usize) -> Resul
     ensures cause { IsErrOf result ReadFailed → Rose (S.faults source.old) (S.faults source.new) }
 {
     while held.len() < size {
-        match read_more(held, source) {
+        match read_more(held, source, buffer) {
             Ok(0) => return Ok(false),
             Ok(_) => {}
             Err(error) => return Err(error),
@@ -164,6 +179,7 @@ fn judge(held: &[u8], size: usize) -> Judged
 fn read_request<S: Source>(
     held: &mut Vec<u8>,
     source: &mut S,
+    buffer: &mut [u8; READ],
     size: usize,
 ) -> Result<Next, ReadError>
     requires found { IsFound held.old.items (Head size) }
@@ -176,7 +192,7 @@ fn read_request<S: Source>(
     ensures cause { IsErrOf result ReadFailed → Rose (S.faults source.old) (S.faults source.new) }
 {
     match judge(held, size) {
-        Judged::Coming(asked) => match fill(held, source, asked.body.end) {
+        Judged::Coming(asked) => match fill(held, source, buffer, asked.body.end) {
             Ok(true) => Ok(Next::Request(asked)),
             Ok(false) => Ok(Next::End),
             Err(error) => Err(error),
@@ -186,7 +202,11 @@ fn read_request<S: Source>(
 }
 
 /// Reads up to the end of the next request.
-pub fn next_request<S: Source>(held: &mut Vec<u8>, source: &mut S) -> Result<Next, ReadError>
+pub fn next_request<S: Source>(
+    held: &mut Vec<u8>,
+    source: &mut S,
+    buffer: &mut [u8; READ],
+) -> Result<Next, ReadError>
     requires { length held.old.items ≤ 4096 }
     ensures came { OnOk result (Came S.told (S.left source.old) (S.left source.new) held.old.items held.new.items) }
     ensures next { IfOk result (IsBrought S.told (S.left source.new) held.new.items) }
@@ -195,8 +215,8 @@ pub fn next_request<S: Source>(held: &mut Vec<u8>, source: &mut S) -> Result<Nex
     ensures later { S.faults source.old ≤ S.faults source.new }
     ensures cause { IsErrOf result ReadFailed → Rose (S.faults source.old) (S.faults source.new) }
 {
-    match find_head(held, source) {
-        Ok(Front::Head(size)) => read_request(held, source, size),
+    match find_head(held, source, buffer) {
+        Ok(Front::Head(size)) => read_request(held, source, buffer, size),
         Ok(Front::Broken) => Ok(Next::Refused(Refusal::BadHead)),
         Ok(Front::Part(_)) => Ok(Next::End),
         Err(error) => Err(error),
