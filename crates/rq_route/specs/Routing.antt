@@ -1,5 +1,5 @@
 -- What a request asks for, or its first refusal, as docs/API.md has it, "Requests".
-use Rattle.std.specs.Prelude.{ℕ, List, Bool, ◌&&◌, Option, Some, None, if◌then◌else◌, nat_lt}
+use Rattle.std.specs.Prelude.{ℕ, List, ◌&&◌, Option, Some, None, if◌then◌else◌, nat_lt}
 use Rattle.rq_route.specs.declared.path.Path.{Path}
 use Rattle.rq_route.specs.declared.parameters.Given.{Given}
 use Rattle.rq_route.specs.declared.parameters.Key.{Key}
