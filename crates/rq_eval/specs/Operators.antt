@@ -9,6 +9,10 @@ use Rattle.rq_values.specs.declared.value.Value.TheVariants as v
 use Rattle.rq_eval.specs.declared.error.StmtError.TheVariants as error
 use Rattle.rq_eval.specs.declared.arithmetic.Arithmetic.{Arithmetic}
 use Rattle.rq_eval.specs.declared.arithmetic.Arithmetic.TheVariants as a
+use Rattle.rq_eval.specs.declared.arithmetic.Sign.{Sign}
+use Rattle.rq_eval.specs.declared.arithmetic.Sign.TheVariants as sign
+use Rattle.rq_eval.specs.declared.logic.Junction.{Junction}
+use Rattle.rq_eval.specs.declared.logic.Junction.TheVariants as j
 use Rattle.rq_eval.specs.Outcome.{Outcome, then_with}
 
 -- ---- three-valued logic
@@ -42,6 +46,10 @@ and3 x y = not3 (or3 (not3 x) (not3 y))
 -- both operands are judged, the left first
 abbrev pub logical : (Option Bool → Option Bool → Option Bool) → Value → Value → Outcome Value
 logical f x y = then_with (condition x) (λ p. then_with (condition y) (λ q. Ok (truth (f p q))))
+
+abbrev pub junction : Junction → Option Bool → Option Bool → Option Bool
+junction j.Or = or3
+junction j.And = and3
 
 abbrev pub logical_not : Value → Outcome Value
 logical_not x = then_with (condition x) (λ p. Ok (truth (not3 p)))
@@ -138,3 +146,7 @@ negative n = in_range (neg_ℤ n)
 
 abbrev pub absolute : ℤ → Outcome Value
 absolute n = if int_lt n (pos 0) then in_range (neg_ℤ n) else Ok (v.Int n)
+
+abbrev pub signed : Sign → ℤ → Outcome Value
+signed sign.Minus n = negative n
+signed sign.Absolute n = absolute n

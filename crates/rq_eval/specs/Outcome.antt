@@ -35,13 +35,7 @@ all_behind vs (x ∷ xs) = then_with x (λ v. all_behind (vs ++ v ∷ []) xs)
 abbrev pub all_of : {A : Type 0} → List (Outcome A) → Outcome (List A)
 all_of xs = all_behind [] xs
 
--- what was made, unless memory ran out
-abbrev pub IsMade : {A : Type 0} → Result A NoMemory → Result A EvalError → Type 0
-IsMade (Ok x) (Ok y) = x ≡ y
-IsMade (Ok x) (Err s) = ⊥
-IsMade (Err n) (Ok y) = ⊥
-IsMade (Err n) (Err s) = s ≡ e.NoMemory
-
+-- the text that was made, unless memory ran out
 abbrev pub IsMadeText : Result (List ℕ) NoMemory → Result Value EvalError → Type 0
 IsMadeText (Ok t) (Ok y) = v.Text t ≡ y
 IsMadeText (Ok t) (Err s) = ⊥

@@ -12,6 +12,10 @@ use Rattle.rq_eval.specs.Outcome.{Outcome, then_with}
 use Rattle.rq_eval.specs.Operators.{truth, is_null, either_null, in_range}
 use Rattle.rq_eval.specs.declared.resolved.TimePart.{TimePart}
 use Rattle.rq_eval.specs.declared.resolved.TimePart.TheVariants as part
+use Rattle.rq_eval.specs.declared.texts.TextPair.{TextPair}
+use Rattle.rq_eval.specs.declared.texts.TextPair.TheVariants as pair
+use Rattle.rq_eval.specs.declared.texts.LetterCase.{LetterCase}
+use Rattle.rq_eval.specs.declared.texts.LetterCase.TheVariants as letters
 use Rattle.rq_eval.specs.declared.error.StmtError.TheVariants as error
 
 -- a text, or an integer as its decimal text
@@ -34,11 +38,19 @@ concatenated s t = v.Text (s ++ t)
 abbrev pub like_value : List ℕ → List ℕ → Value
 like_value s pattern = truth (Some (like (chars pattern) (chars s)))
 
+abbrev pub on_pair : TextPair → List ℕ → List ℕ → Value
+on_pair pair.Join s t = concatenated s t
+on_pair pair.Like s t = like_value s t
+
 abbrev pub lower : List ℕ → Value
 lower s = v.Text (map to_ascii_lowercase s)
 
 abbrev pub upper : List ℕ → Value
 upper s = v.Text (map to_ascii_uppercase s)
+
+abbrev pub in_case : LetterCase → List ℕ → Value
+in_case letters.Lower s = lower s
+in_case letters.Upper s = upper s
 
 -- characters of a text or a decimal text, bytes of a blob
 abbrev pub length_of : Value → Outcome Value

@@ -1,6 +1,6 @@
 //! Aggregates: what one has so far, and one more value.
 
-ghost use Rattle.std.specs.Prelude.{◌≡◌};
+ghost use Rattle.std.specs.Prelude.{◌≡◌, if◌then◌else◌};
 ghost use Rattle.rq_eval.specs.Aggregates as spec;
 
 use crate::arithmetic::{Arithmetic, calculate};
@@ -20,22 +20,15 @@ fn added(so_far: &Value, value: &Value) -> Result<Value, StmtError>
     }
 }
 
-fn least(so_far: Value, value: Value) -> Value
-    ensures { result ≡ spec.chosen spec.is_less so_far value }
+/// The new value where it is better, else the one so far.
+fn chosen(better: bool, so_far: Value, value: Value) -> Value
+    ensures { result ≡ (if better then value else so_far) }
 {
-    if is_null(&so_far) || compare(&value, &so_far).is_lt() {
+    if better {
+        drop(so_far);
         value
     } else {
-        so_far
-    }
-}
-
-fn greatest(so_far: Value, value: Value) -> Value
-    ensures { result ≡ spec.chosen spec.is_greater so_far value }
-{
-    if is_null(&so_far) || compare(&value, &so_far).is_gt() {
-        value
-    } else {
+        drop(value);
         so_far
     }
 }
@@ -46,8 +39,14 @@ fn accumulated(op: AggregateOp, so_far: Value, value: Value) -> Result<Value, St
     match op {
         AggregateOp::Count => added(&so_far, &Value::Int(1)),
         AggregateOp::Sum => added(&so_far, &value),
-        AggregateOp::Min => Ok(least(so_far, value)),
-        AggregateOp::Max => Ok(greatest(so_far, value)),
+        AggregateOp::Min => {
+            let better = is_null(&so_far) || compare(&value, &so_far).is_lt();
+            Ok(chosen(better, so_far, value))
+        }
+        AggregateOp::Max => {
+            let better = is_null(&so_far) || compare(&value, &so_far).is_gt();
+            Ok(chosen(better, so_far, value))
+        }
     }
 }
 
@@ -56,6 +55,7 @@ pub fn one_more(op: AggregateOp, so_far: Value, value: Value) -> Result<Value, S
     ensures { result ≡ spec.one_more op so_far value }
 {
     if is_null(&value) {
+        drop(value);
         Ok(so_far)
     } else {
         accumulated(op, so_far, value)

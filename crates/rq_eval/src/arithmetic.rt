@@ -17,6 +17,13 @@ pub enum Arithmetic {
     Rem,
 }
 
+/// What is done to the sign of an integer.
+#[derive(Clone, Copy)]
+pub enum Sign {
+    Minus,
+    Absolute,
+}
+
 fn integer(value: &Value) -> Result<i64, StmtError>
     ensures { result ≡ spec.integer value.now }
 {
@@ -25,33 +32,6 @@ fn integer(value: &Value) -> Result<i64, StmtError>
         Value::Int(n) => Ok(*n),
         Value::Text(_) => Err(StmtError::NotInteger),
         Value::Blob(_) => Err(StmtError::NotInteger),
-    }
-}
-
-fn sum(m: i64, n: i64) -> Result<Value, StmtError>
-    ensures { result ≡ spec.sum m n }
-{
-    match m.checked_add(n) {
-        Some(k) => Ok(Value::Int(k)),
-        None => Err(StmtError::IntegerOverflow),
-    }
-}
-
-fn difference(m: i64, n: i64) -> Result<Value, StmtError>
-    ensures { result ≡ spec.difference m n }
-{
-    match m.checked_sub(n) {
-        Some(k) => Ok(Value::Int(k)),
-        None => Err(StmtError::IntegerOverflow),
-    }
-}
-
-fn product(m: i64, n: i64) -> Result<Value, StmtError>
-    ensures { result ≡ spec.product m n }
-{
-    match m.checked_mul(n) {
-        Some(k) => Ok(Value::Int(k)),
-        None => Err(StmtError::IntegerOverflow),
     }
 }
 
@@ -102,9 +82,18 @@ fn calculated(op: Arithmetic, m: i64, n: i64) -> Result<Value, StmtError>
     ensures { result ≡ spec.calculated op m n }
 {
     match op {
-        Arithmetic::Add => sum(m, n),
-        Arithmetic::Sub => difference(m, n),
-        Arithmetic::Mul => product(m, n),
+        Arithmetic::Add => match m.checked_add(n) {
+            Some(k) => Ok(Value::Int(k)),
+            None => Err(StmtError::IntegerOverflow),
+        },
+        Arithmetic::Sub => match m.checked_sub(n) {
+            Some(k) => Ok(Value::Int(k)),
+            None => Err(StmtError::IntegerOverflow),
+        },
+        Arithmetic::Mul => match m.checked_mul(n) {
+            Some(k) => Ok(Value::Int(k)),
+            None => Err(StmtError::IntegerOverflow),
+        },
         Arithmetic::Div => quotient(m, n),
         Arithmetic::Rem => remainder(m, n),
     }
@@ -122,22 +111,16 @@ pub fn calculate(op: Arithmetic, a: &Value, b: &Value) -> Result<Value, StmtErro
     calculated(op, m, n)
 }
 
-/// A front `-`
-pub fn minus(a: &Value) -> Result<Value, StmtError>
-    ensures { result ≡ spec.on_integer spec.negative a.now }
+/// A front `-` and ABS
+pub fn on_integer(op: Sign, a: &Value) -> Result<Value, StmtError>
+    ensures { result ≡ spec.on_integer (spec.signed op) a.now }
 {
     if is_null(a) {
         return Ok(Value::Null);
     }
-    negative(integer(a)?)
-}
-
-/// ABS
-pub fn absolute_value(a: &Value) -> Result<Value, StmtError>
-    ensures { result ≡ spec.on_integer spec.absolute a.now }
-{
-    if is_null(a) {
-        return Ok(Value::Null);
+    let n = integer(a)?;
+    match op {
+        Sign::Minus => negative(n),
+        Sign::Absolute => absolute(n),
     }
-    absolute(integer(a)?)
 }

@@ -1,10 +1,12 @@
 //! Comparison, IS, IN, BETWEEN and COALESCE.
 
-ghost use Rattle.std.specs.Prelude.{◌≡◌, IfOk};
+ghost use Rattle.std.specs.Prelude.{◌≡◌, Ok};
 ghost use Rattle.rq_eval.specs.Operators as spec;
+ghost use Rattle.rq_eval.specs.Outcome.{Answers};
 
+use crate::error::EvalError;
 use crate::logic::{and3, or3, truth};
-use rq_values::{NoMemory, TryCopy, Value, compare};
+use rq_values::{TryCopy, Value, compare};
 use std::alloc::Global;
 
 pub fn is_null(value: &Value) -> bool
@@ -70,13 +72,22 @@ pub fn between(a: &Value, low: &Value, high: &Value) -> Value
     truth(and3(above, below))
 }
 
+pub fn copied(alloc: Global, value: &Value) -> Result<Value, EvalError>
+    ensures { Answers (Ok value.now) result }
+{
+    match value.copy(alloc) {
+        Ok(value) => Ok(value),
+        Err(_) => Err(EvalError::NoMemory),
+    }
+}
+
 /// The first that isn't NULL, or NULL.
-pub fn first_non_null(alloc: Global, list: &[Value]) -> Result<Value, NoMemory>
-    ensures { IfOk result (λ v. v ≡ spec.first_non_null list.now) }
+pub fn first_non_null(alloc: Global, list: &[Value]) -> Result<Value, EvalError>
+    ensures { Answers (Ok (spec.first_non_null list.now)) result }
 {
     for value in list {
         if !is_null(value) {
-            return value.copy(alloc);
+            return copied(alloc, value);
         }
     }
     Ok(Value::Null)

@@ -65,15 +65,10 @@ fn put_value_count(
     columns: u64,
     values: u64,
 ) -> Result<(), NoMemory>
-    ensures { OnOk result (text.new ≡ text.old ++ (codes "table " ++ table.now ++ codes " has " ++ decimal columns ++ codes " columns but " ++ decimal values ++ codes " values were supplied")) }
+    ensures { OnOk result (text.new ≡ text.old ++ ((codes "table " ++ table.now ++ codes " has ") ++ (spec.counted columns (codes " columns but ") ++ spec.counted values (codes " values were supplied")))) }
 {
-    text.push_plain(b"table ")?;
-    text.push_text(table)?;
-    text.push_plain(b" has ")?;
-    text.push_number(alloc, columns)?;
-    text.push_plain(b" columns but ")?;
-    text.push_number(alloc, values)?;
-    text.push_plain(b" values were supplied")
+    put_named(text, b"table ", table, b" has ")?;
+    put_counts(text, alloc, columns, b" columns but ", values, b" values were supplied")
 }
 
 /// A number and words.
@@ -85,11 +80,21 @@ fn put_count(text: &mut Text, alloc: Global, number: u64, words: &[u8]) -> Resul
     text.push_plain(words)
 }
 
-fn put_list_count(text: &mut Text, alloc: Global, values: u64, columns: u64) -> Result<(), NoMemory>
-    ensures { OnOk result (text.new ≡ text.old ++ (spec.counted values (codes " values for ") ++ spec.counted columns (codes " columns"))) }
+/// A number and words, twice.
+fn put_counts(
+    text: &mut Text,
+    alloc: Global,
+    first: u64,
+    between: &[u8],
+    second: u64,
+    behind: &[u8],
+) -> Result<(), NoMemory>
+    requires between { is_plain between.now ≡ true }
+    requires behind { is_plain behind.now ≡ true }
+    ensures { OnOk result (text.new ≡ text.old ++ (spec.counted first between.now ++ spec.counted second behind.now)) }
 {
-    put_count(text, alloc, values, b" values for ")?;
-    put_count(text, alloc, columns, b" columns")
+    put_count(text, alloc, first, between)?;
+    put_count(text, alloc, second, behind)
 }
 
 /// Words, words, words and words.
@@ -158,7 +163,7 @@ impl StmtError {
                 values,
             } => put_value_count(text, alloc, table, *columns, *values),
             StmtError::WrongListCount { values, columns } => {
-                put_list_count(text, alloc, *values, *columns)
+                put_counts(text, alloc, *values, b" values for ", *columns, b" columns")
             }
             StmtError::NoFunction(f) => put_name(text, b"no such function: ", f),
             StmtError::WrongArguments(f) => {
@@ -207,8 +212,16 @@ impl StmtError {
     pub fn text(&self, into: &mut Vec<u8>) -> Result<(), NoMemory>
         ensures { OnOk result (into.new.items ≡ into.old.items ++ spec.error_text self.now) }
     {
-        let text = self.to_text(*into.allocator())?;
-        into.extend_from_slice(text.bytes())?;
-        Ok(())
+        match self.to_text(*into.allocator()) {
+            Ok(text) => {
+                let added = into.extend_from_slice(text.bytes());
+                drop(text);
+                match added {
+                    Ok(()) => Ok(()),
+                    Err(e) => Err(NoMemory::from(e)),
+                }
+            }
+            Err(e) => Err(e),
+        }
     }
 }

@@ -2,21 +2,21 @@
 //! settling makes none deeper.
 
 ghost use Rattle.std.specs.Prelude.{◌≡◌, IfOk, IfSome, Ok, Err, map};
-ghost use Rattle.rq_eval.specs.Outcome.{Answers, IsMade};
+ghost use Rattle.rq_eval.specs.Outcome.{Answers};
 ghost use Rattle.rq_eval.specs.Aggregates as aggregates;
 ghost use Rattle.rq_eval.specs.Functions as functions;
 ghost use Rattle.rq_eval.specs.Names.{row_of, value_at};
 ghost use Rattle.rq_eval.specs.Resolved as spec;
 
 use crate::aggregates::{one_more, start};
-use crate::arithmetic::{Arithmetic, absolute_value, calculate, minus};
-use crate::comparing::{between, compared, first_non_null, in_list, is_same};
+use crate::arithmetic::{Arithmetic, Sign, calculate, on_integer};
+use crate::comparing::{between, compared, copied, first_non_null, in_list, is_same};
 use crate::dates::time_part;
 use crate::error::{EvalError, StmtError};
-use crate::logic::{logical_and, logical_not, logical_or, truth};
+use crate::logic::{Junction, logical, logical_not, truth};
 use crate::resolved::{AggregateOp, ResolveError, ResolvedExpr, UnaryOp};
 use crate::row::RowView;
-use crate::texts::{concatenate, count, hex, length, like, lower, type_of, upper};
+use crate::texts::{LetterCase, TextPair, count, hex, in_case, length, on_texts, type_of};
 use rq_grammar::BinaryOp;
 use rq_values::{NoMemory, TryCopy, Value, compare};
 use sqlite_items::{Items, at};
@@ -32,32 +32,17 @@ fn given(outcome: Result<Value, StmtError>) -> Result<Value, EvalError>
     }
 }
 
-fn made(value: Result<Value, NoMemory>) -> Result<Value, EvalError>
-    ensures { IsMade value result }
-{
-    match value {
-        Ok(value) => Ok(value),
-        Err(_) => Err(EvalError::NoMemory),
-    }
-}
-
-fn copied(alloc: Global, value: &Value) -> Result<Value, EvalError>
-    ensures { Answers (Ok value.now) result }
-{
-    Ok(value.copy(alloc)?)
-}
-
 fn unary(alloc: Global, op: UnaryOp, a: &Value) -> Result<Value, EvalError>
     ensures { Answers (functions.unary op a.now) result }
 {
     match op {
-        UnaryOp::Minus => given(minus(a)),
+        UnaryOp::Minus => given(on_integer(Sign::Minus, a)),
         UnaryOp::Not => given(logical_not(a)),
-        UnaryOp::Abs => given(absolute_value(a)),
+        UnaryOp::Abs => given(on_integer(Sign::Absolute, a)),
         UnaryOp::Length => given(length(a)),
-        UnaryOp::Lower => lower(alloc, a),
-        UnaryOp::Upper => upper(alloc, a),
-        UnaryOp::Hex => made(hex(alloc, a)),
+        UnaryOp::Lower => in_case(alloc, LetterCase::Lower, a),
+        UnaryOp::Upper => in_case(alloc, LetterCase::Upper, a),
+        UnaryOp::Hex => hex(alloc, a),
         UnaryOp::TypeOf => type_of(alloc, a),
         UnaryOp::Part(part) => time_part(alloc, part, a),
     }
@@ -66,7 +51,7 @@ fn unary(alloc: Global, op: UnaryOp, a: &Value) -> Result<Value, EvalError>
 fn not_like(alloc: Global, a: &Value, b: &Value) -> Result<Value, EvalError>
     ensures { Answers (functions.binary functions.not_like a.now b.now) result }
 {
-    let is = like(alloc, a, b)?;
+    let is = on_texts(alloc, TextPair::Like, a, b)?;
     given(logical_not(&is))
 }
 
@@ -74,13 +59,13 @@ fn binary(alloc: Global, op: BinaryOp, a: &Value, b: &Value) -> Result<Value, Ev
     ensures { Answers (functions.binary op a.now b.now) result }
 {
     match op {
-        BinaryOp::Or => given(logical_or(a, b)),
-        BinaryOp::And => given(logical_and(a, b)),
+        BinaryOp::Or => given(logical(Junction::Or, a, b)),
+        BinaryOp::And => given(logical(Junction::And, a, b)),
         BinaryOp::Equal => Ok(compared(a, b, compare(a, b).is_eq())),
         BinaryOp::NotEqual => Ok(compared(a, b, compare(a, b).is_ne())),
         BinaryOp::Is => Ok(truth(Some(is_same(a, b)))),
         BinaryOp::IsNot => Ok(truth(Some(!is_same(a, b)))),
-        BinaryOp::Like => like(alloc, a, b),
+        BinaryOp::Like => on_texts(alloc, TextPair::Like, a, b),
         BinaryOp::NotLike => not_like(alloc, a, b),
         BinaryOp::Less => Ok(compared(a, b, compare(a, b).is_lt())),
         BinaryOp::LessEqual => Ok(compared(a, b, compare(a, b).is_le())),
@@ -91,7 +76,7 @@ fn binary(alloc: Global, op: BinaryOp, a: &Value, b: &Value) -> Result<Value, Ev
         BinaryOp::Mul => given(calculate(Arithmetic::Mul, a, b)),
         BinaryOp::Div => given(calculate(Arithmetic::Div, a, b)),
         BinaryOp::Rem => given(calculate(Arithmetic::Rem, a, b)),
-        BinaryOp::Concat => concatenate(alloc, a, b),
+        BinaryOp::Concat => on_texts(alloc, TextPair::Join, a, b),
     }
 }
 
@@ -109,14 +94,28 @@ fn error_of(alloc: Global, error: &ResolveError) -> Result<StmtError, NoMemory>
     ensures { IfOk result (λ e. e ≡ spec.error_of error.now) }
 {
     match error {
-        ResolveError::NoColumn(name) => Ok(StmtError::NoColumn(name.copy(alloc)?)),
-        ResolveError::NoQualifiedColumn { table, column } => {
-            let table = table.copy(alloc)?;
-            let column = column.copy(alloc)?;
-            Ok(StmtError::NoQualifiedColumn { table, column })
-        }
-        ResolveError::NoFunction(name) => Ok(StmtError::NoFunction(name.copy(alloc)?)),
-        ResolveError::WrongArguments(name) => Ok(StmtError::WrongArguments(name.copy(alloc)?)),
+        ResolveError::NoColumn(name) => match name.copy(alloc) {
+            Ok(name) => Ok(StmtError::NoColumn(name)),
+            Err(e) => Err(e),
+        },
+        ResolveError::NoQualifiedColumn { table, column } => match table.copy(alloc) {
+            Ok(table) => match column.copy(alloc) {
+                Ok(column) => Ok(StmtError::NoQualifiedColumn { table, column }),
+                Err(e) => {
+                    drop(table);
+                    Err(e)
+                }
+            },
+            Err(e) => Err(e),
+        },
+        ResolveError::NoFunction(name) => match name.copy(alloc) {
+            Ok(name) => Ok(StmtError::NoFunction(name)),
+            Err(e) => Err(e),
+        },
+        ResolveError::WrongArguments(name) => match name.copy(alloc) {
+            Ok(name) => Ok(StmtError::WrongArguments(name)),
+            Err(e) => Err(e),
+        },
         ResolveError::MisuseOfAggregate => Ok(StmtError::MisuseOfAggregate),
     }
 }
@@ -124,15 +123,27 @@ fn error_of(alloc: Global, error: &ResolveError) -> Result<StmtError, NoMemory>
 fn says(alloc: Global, error: &ResolveError) -> Result<Value, EvalError>
     ensures { Answers (Err (spec.error_of error.now)) result }
 {
-    Err(EvalError::Says(error_of(alloc, error)?))
+    match error_of(alloc, error) {
+        Ok(error) => Err(EvalError::Says(error)),
+        Err(_) => Err(EvalError::NoMemory),
+    }
 }
 
 /// An operand's value: where it stands in the expression or in the row, or one that was made.
-#[derive(Drop)]
 pub enum Operand<'e, 'r> {
     Literal(&'e Value),
     Column(&'r Value),
     Made(Value),
+}
+
+impl Drop for Operand<'_, '_> {
+    fn drop(self) {
+        match self {
+            Operand::Literal(_) => {}
+            Operand::Column(_) => {}
+            Operand::Made(value) => drop(value),
+        }
+    }
 }
 
 impl Operand<'_, '_> {
@@ -196,8 +207,13 @@ fn over(
 {
     let mut so_far = start(op);
     for row in rows {
-        let value = evaluate(alloc, operand, row, rows)?;
-        so_far = one_more(op, so_far, value)?;
+        match evaluate(alloc, operand, row, rows) {
+            Ok(value) => so_far = one_more(op, so_far, value)?,
+            Err(e) => {
+                drop(so_far);
+                return Err(e);
+            }
+        }
     }
     Ok(so_far)
 }
@@ -255,7 +271,7 @@ pub fn evaluate(
         }
         ResolvedExpr::Coalesce(list) => {
             let list = all_evaluated(alloc, list.as_slice(), row, rows)?;
-            made(first_non_null(alloc, list.as_slice()))
+            first_non_null(alloc, list.as_slice())
         }
         ResolvedExpr::CountAll => given(count(rows.len())),
         ResolvedExpr::Aggregate { op, operand } => over(alloc, *op, operand.get(), rows),

@@ -53,27 +53,31 @@ pub fn and3(a: Option<bool>, b: Option<bool>) -> Option<bool>
     not3(or3(not3(a), not3(b)))
 }
 
-/// OR. Both operands are judged.
-pub fn logical_or(a: &Value, b: &Value) -> Result<Value, StmtError>
-    ensures { result ≡ spec.logical spec.or3 a.now b.now }
-{
-    let a = condition(a)?;
-    let b = condition(b)?;
-    Ok(truth(or3(a, b)))
+/// OR or AND.
+#[derive(Clone, Copy)]
+pub enum Junction {
+    Or,
+    And,
 }
 
-/// AND. Both operands are judged.
-pub fn logical_and(a: &Value, b: &Value) -> Result<Value, StmtError>
-    ensures { result ≡ spec.logical spec.and3 a.now b.now }
+/// OR and AND. Both operands are judged.
+pub fn logical(op: Junction, a: &Value, b: &Value) -> Result<Value, StmtError>
+    ensures { result ≡ spec.logical (spec.junction op) a.now b.now }
 {
     let a = condition(a)?;
     let b = condition(b)?;
-    Ok(truth(and3(a, b)))
+    match op {
+        Junction::Or => Ok(truth(or3(a, b))),
+        Junction::And => Ok(truth(and3(a, b))),
+    }
 }
 
 /// NOT
 pub fn logical_not(a: &Value) -> Result<Value, StmtError>
     ensures { result ≡ spec.logical_not a.now }
 {
-    Ok(truth(not3(condition(a)?)))
+    match condition(a) {
+        Ok(a) => Ok(truth(not3(a))),
+        Err(e) => Err(e),
+    }
 }

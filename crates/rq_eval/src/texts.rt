@@ -22,8 +22,14 @@ fn spelled(alloc: Global, value: &Value) -> Result<Text, EvalError>
 {
     match value {
         Value::Null => Err(EvalError::Says(StmtError::NotText)),
-        Value::Int(number) => Ok(Text::of_integer(alloc, *number)?),
-        Value::Text(text) => Ok(text.copy(alloc)?),
+        Value::Int(number) => match Text::of_integer(alloc, *number) {
+            Ok(text) => Ok(text),
+            Err(_) => Err(EvalError::NoMemory),
+        },
+        Value::Text(text) => match text.copy(alloc) {
+            Ok(text) => Ok(text),
+            Err(_) => Err(EvalError::NoMemory),
+        },
         Value::Blob(_) => Err(EvalError::Says(StmtError::NotText)),
     }
 }
@@ -35,23 +41,6 @@ pub fn text_value(text: Result<Text, NoMemory>) -> Result<Value, EvalError>
     match text {
         Ok(text) => Ok(Value::Text(text)),
         Err(_) => Err(EvalError::NoMemory),
-    }
-}
-
-/// `||`
-pub fn concatenate(alloc: Global, a: &Value, b: &Value) -> Result<Value, EvalError>
-    ensures { outcome.Answers (texts.on_texts texts.concatenated a.now b.now) result }
-{
-    if either_null(a, b) {
-        return Ok(Value::Null);
-    }
-    let s = spelled(alloc, a)?;
-    match spelled(alloc, b) {
-        Ok(t) => text_value(s.joined(alloc, &t)),
-        Err(e) => {
-            drop(s);
-            Err(e)
-        }
     }
 }
 
@@ -76,16 +65,32 @@ fn like_texts(alloc: Global, text: &Text, pattern: &Text) -> Result<Value, EvalE
     }
 }
 
-/// LIKE of what isn't two texts.
-fn like_spelled(alloc: Global, a: &Value, b: &Value) -> Result<Value, EvalError>
-    ensures { outcome.Answers (texts.on_texts texts.like_value a.now b.now) result }
+/// `||` or LIKE.
+#[derive(Clone, Copy)]
+pub enum TextPair {
+    Join,
+    Like,
+}
+
+fn on_pair(alloc: Global, op: TextPair, s: &Text, t: &Text) -> Result<Value, EvalError>
+    ensures { outcome.Answers (Ok (texts.on_pair op s.now t.now)) result }
+{
+    match op {
+        TextPair::Join => text_value(s.joined(alloc, t)),
+        TextPair::Like => like_texts(alloc, s, t),
+    }
+}
+
+/// `||` and LIKE of what isn't two texts.
+fn on_spelled(alloc: Global, op: TextPair, a: &Value, b: &Value) -> Result<Value, EvalError>
+    ensures { outcome.Answers (texts.on_texts (texts.on_pair op) a.now b.now) result }
 {
     if either_null(a, b) {
         return Ok(Value::Null);
     }
     let s = spelled(alloc, a)?;
     match spelled(alloc, b) {
-        Ok(t) => like_texts(alloc, &s, &t),
+        Ok(t) => on_pair(alloc, op, &s, &t),
         Err(e) => {
             drop(s);
             Err(e)
@@ -93,36 +98,35 @@ fn like_spelled(alloc: Global, a: &Value, b: &Value) -> Result<Value, EvalError>
     }
 }
 
-/// LIKE
-pub fn like(alloc: Global, a: &Value, b: &Value) -> Result<Value, EvalError>
-    ensures { outcome.Answers (texts.on_texts texts.like_value a.now b.now) result }
+/// `||` and LIKE
+pub fn on_texts(alloc: Global, op: TextPair, a: &Value, b: &Value) -> Result<Value, EvalError>
+    ensures { outcome.Answers (texts.on_texts (texts.on_pair op) a.now b.now) result }
 {
     match (a, b) {
-        (Value::Text(s), Value::Text(t)) => like_texts(alloc, s, t),
-        _ => like_spelled(alloc, a, b),
+        (Value::Text(s), Value::Text(t)) => on_pair(alloc, op, s, t),
+        _ => on_spelled(alloc, op, a, b),
     }
 }
 
-/// LOWER
-pub fn lower(alloc: Global, a: &Value) -> Result<Value, EvalError>
-    ensures { outcome.Answers (texts.on_text texts.lower a.now) result }
+/// Which letters a text is to have.
+#[derive(Clone, Copy)]
+pub enum LetterCase {
+    Lower,
+    Upper,
+}
+
+/// LOWER and UPPER
+pub fn in_case(alloc: Global, case: LetterCase, a: &Value) -> Result<Value, EvalError>
+    ensures { outcome.Answers (texts.on_text (texts.in_case case) a.now) result }
 {
     if is_null(a) {
         return Ok(Value::Null);
     }
     let s = spelled(alloc, a)?;
-    text_value(s.lower(alloc))
-}
-
-/// UPPER
-pub fn upper(alloc: Global, a: &Value) -> Result<Value, EvalError>
-    ensures { outcome.Answers (texts.on_text texts.upper a.now) result }
-{
-    if is_null(a) {
-        return Ok(Value::Null);
+    match case {
+        LetterCase::Lower => text_value(s.lower(alloc)),
+        LetterCase::Upper => text_value(s.upper(alloc)),
     }
-    let s = spelled(alloc, a)?;
-    text_value(s.upper(alloc))
 }
 
 /// A number of things as an integer.
@@ -180,25 +184,30 @@ fn hex_text(alloc: Global, bytes: &[u8]) -> Result<Text, NoMemory>
 {
     let mut digits = Text::empty(alloc);
     for byte in bytes {
-        put_byte(&mut digits, *byte)?;
+        match put_byte(&mut digits, *byte) {
+            Ok(()) => {}
+            Err(e) => {
+                drop(digits);
+                return Err(e);
+            }
+        }
     }
     Ok(digits)
 }
 
 /// HEX
-pub fn hex(alloc: Global, a: &Value) -> Result<Value, NoMemory>
-    ensures { IfOk result (λ v. v ≡ texts.hex a.now) }
+pub fn hex(alloc: Global, a: &Value) -> Result<Value, EvalError>
+    ensures { outcome.Answers (Ok (texts.hex a.now)) result }
 {
-    let text = match a {
-        Value::Null => Text::empty(alloc),
+    match a {
+        Value::Null => Ok(Value::Text(Text::empty(alloc))),
         Value::Int(number) => {
             let mut buffer = itoa::Buffer::new();
-            hex_text(alloc, buffer.format(*number).as_bytes())?
+            text_value(hex_text(alloc, buffer.format(*number).as_bytes()))
         }
-        Value::Text(text) => hex_text(alloc, text.bytes())?,
-        Value::Blob(bytes) => hex_text(alloc, bytes.bytes())?,
-    };
-    Ok(Value::Text(text))
+        Value::Text(text) => text_value(hex_text(alloc, text.bytes())),
+        Value::Blob(bytes) => text_value(hex_text(alloc, bytes.bytes())),
+    }
 }
 
 fn kind(a: &Value) -> &'static [u8]

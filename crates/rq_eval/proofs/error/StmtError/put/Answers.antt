@@ -34,7 +34,7 @@ pub returns-in-WrongValueCount : goal.returns-in-WrongValueCount
 returns-in-WrongValueCount c = rw c.in-WrongValueCount.is c.put_value_count.ensures
 
 pub returns-in-WrongListCount : goal.returns-in-WrongListCount
-returns-in-WrongListCount c = rw c.in-WrongListCount.is c.put_list_count.ensures
+returns-in-WrongListCount c = rw c.in-WrongListCount.is c.put_counts.ensures
 
 pub returns-in-NoFunction : goal.returns-in-NoFunction
 returns-in-NoFunction c = rw c.in-NoFunction.is c.put_name-in-NoFunction.ensures
