@@ -1,5 +1,6 @@
 -- The same in two steps: names become places in a row and calls become operators, once for a statement; and that is evaluated.
 use Rattle.std.specs.Prelude.{◌≡◌, ℕ, Bool, true, false, if◌then◌else◌, List, [], ◌∷◌, map, length, Option, Some, None, Result, Ok, Err, pos}
+use Rattle.rq_values.specs.declared.memory.NoMemory.{NoMemory}
 use Rattle.rq_values.specs.declared.value.Value.{Value}
 use Rattle.rq_values.specs.declared.value.Value.TheVariants as v
 use Rattle.rq_grammar.specs.declared.expr.Expr.{Expr}
@@ -97,8 +98,12 @@ resolved s = fold-Expr (Bool → ResolvedExpr) (resolved_step s)
 abbrev pub all_resolved : Scope → List Expr → Bool → List ResolvedExpr
 all_resolved s ys g = map (λ y. y g) (map (resolved s) ys)
 
-abbrev pub unary_of : UnaryOp → ResolvedExpr → ResolvedExpr
-unary_of h y = x.Unary h y
+-- the operator on the operand, unless memory ran out
+abbrev pub IsUnary : UnaryOp → Result ResolvedExpr NoMemory → Result ResolvedExpr NoMemory → Type 0
+IsUnary h (Ok y) (Ok z) = z ≡ x.Unary h y
+IsUnary h (Ok y) (Err e) = ⊥
+IsUnary h (Err e) (Ok z) = ⊥
+IsUnary h (Err e) (Err f) = Unit {0}
 
 -- ---- its value over a row, with the rows that aggregates are over
 

@@ -54,16 +54,12 @@ fn time_text(alloc: Global, text: &Text) -> Result<Text, NoMemory>
 fn date_time_text(alloc: Global, text: &Text) -> Result<Text, NoMemory>
     ensures { IfOk result (λ t. t ≡ texts.date_time text.now) }
 {
-    let mut whole = text.copy(alloc)?;
     if has_time(text.bytes()) {
-        return Ok(whole);
+        return text.copy(alloc);
     }
-    match whole.push_plain(b" 00:00:00") {
-        Ok(()) => Ok(whole),
-        Err(e) => {
-            drop(whole);
-            Err(e)
-        }
+    match plain_text(alloc, b" 00:00:00") {
+        Ok(midnight) => text.joined(alloc, &midnight),
+        Err(e) => Err(e),
     }
 }
 

@@ -68,7 +68,14 @@ fn put_value_count(
     ensures { OnOk result (text.new ≡ text.old ++ ((codes "table " ++ table.now ++ codes " has ") ++ (spec.counted columns (codes " columns but ") ++ spec.counted values (codes " values were supplied")))) }
 {
     put_named(text, b"table ", table, b" has ")?;
-    put_counts(text, alloc, columns, b" columns but ", values, b" values were supplied")
+    put_counts(
+        text,
+        alloc,
+        columns,
+        b" columns but ",
+        values,
+        b" values were supplied",
+    )
 }
 
 /// A number and words.

@@ -1,7 +1,7 @@
 //! The value of a resolved expression. The recursion is as deep as the expression: what is read has at most 100 levels, and
 //! settling makes none deeper.
 
-ghost use Rattle.std.specs.Prelude.{◌≡◌, IfOk, IfSome, Ok, Err, map};
+ghost use Rattle.std.specs.Prelude.{◌≡◌, IfOk, Ok, Err, map};
 ghost use Rattle.rq_eval.specs.Outcome.{Answers};
 ghost use Rattle.rq_eval.specs.Aggregates as aggregates;
 ghost use Rattle.rq_eval.specs.Functions as functions;
@@ -158,21 +158,13 @@ impl Operand<'_, '_> {
     }
 }
 
-/// The value, where it stands in the expression or in the row.
-fn lent<'e, 'r>(
-    expr: &'e ResolvedExpr,
-    row: &RowView<'r>,
-    _rows: &[RowView<'_>],
-) -> Option<Operand<'e, 'r>>
-    ensures { IfSome result (λ v. spec.evaluated (map row_of _rows.now) expr.now (row_of row.now) ≡ Ok (spec.operand_value v)) }
+/// The value at a place of a row; behind the columns stands the rowid.
+fn column_operand<'e, 'r>(row: &RowView<'r>, place: usize) -> Operand<'e, 'r>
+    ensures { spec.operand_value result ≡ value_at (row_of row.now) place }
 {
-    match expr {
-        ResolvedExpr::Literal(value) => Some(Operand::Literal(value)),
-        ResolvedExpr::Column(place) => match at(row.values, *place) {
-            Some(value) => Some(Operand::Column(value)),
-            None => None,
-        },
-        _ => None,
+    match at(row.values, place) {
+        Some(value) => Operand::Column(value),
+        None => Operand::Made(Value::Int(row.rowid)),
     }
 }
 
@@ -186,9 +178,10 @@ fn operand_of<'e, 'r>(
 ) -> Result<Operand<'e, 'r>, EvalError>
     ensures { spec.IsOperand (spec.evaluated (map row_of rows.now) expr.now (row_of row.now)) result }
 {
-    match lent(expr, row, rows) {
-        Some(operand) => Ok(operand),
-        None => match evaluate(alloc, expr, row, rows) {
+    match expr {
+        ResolvedExpr::Literal(value) => Ok(Operand::Literal(value)),
+        ResolvedExpr::Column(place) => Ok(column_operand(row, *place)),
+        _ => match evaluate(alloc, expr, row, rows) {
             Ok(value) => Ok(Operand::Made(value)),
             Err(e) => Err(e),
         },
@@ -230,7 +223,13 @@ fn all_evaluated(
 {
     let mut found = Items::new(alloc);
     for expr in exprs {
-        found.push(evaluate(alloc, expr, row, rows)?)?;
+        match evaluate(alloc, expr, row, rows) {
+            Ok(value) => found.push(value)?,
+            Err(e) => {
+                drop(found);
+                return Err(e);
+            }
+        }
     }
     Ok(found)
 }
@@ -255,19 +254,41 @@ pub fn evaluate(
         }
         ResolvedExpr::Binary { op, left, right } => {
             let a = operand_of(alloc, left.get(), row, rows)?;
-            let b = operand_of(alloc, right.get(), row, rows)?;
-            binary(alloc, *op, a.get(), b.get())
+            match operand_of(alloc, right.get(), row, rows) {
+                Ok(b) => binary(alloc, *op, a.get(), b.get()),
+                Err(e) => {
+                    drop(a);
+                    Err(e)
+                }
+            }
         }
         ResolvedExpr::InList { left, list } => {
             let a = operand_of(alloc, left.get(), row, rows)?;
-            let list = all_evaluated(alloc, list.as_slice(), row, rows)?;
-            Ok(in_list(a.get(), list.as_slice()))
+            match all_evaluated(alloc, list.as_slice(), row, rows) {
+                Ok(list) => Ok(in_list(a.get(), list.as_slice())),
+                Err(e) => {
+                    drop(a);
+                    Err(e)
+                }
+            }
         }
         ResolvedExpr::Between { operand, low, high } => {
             let a = operand_of(alloc, operand.get(), row, rows)?;
-            let low = operand_of(alloc, low.get(), row, rows)?;
-            let high = operand_of(alloc, high.get(), row, rows)?;
-            Ok(between(a.get(), low.get(), high.get()))
+            let low = match operand_of(alloc, low.get(), row, rows) {
+                Ok(low) => low,
+                Err(e) => {
+                    drop(a);
+                    return Err(e);
+                }
+            };
+            match operand_of(alloc, high.get(), row, rows) {
+                Ok(high) => Ok(between(a.get(), low.get(), high.get())),
+                Err(e) => {
+                    drop(a);
+                    drop(low);
+                    Err(e)
+                }
+            }
         }
         ResolvedExpr::Coalesce(list) => {
             let list = all_evaluated(alloc, list.as_slice(), row, rows)?;

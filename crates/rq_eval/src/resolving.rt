@@ -52,8 +52,16 @@ fn qualified_column(
         Some(place) => Ok(column_at(place, aggregates)),
         None => {
             let table = table.copy(alloc)?;
-            let column = name.copy(alloc)?;
-            Ok(ResolvedExpr::Error(ResolveError::NoQualifiedColumn { table, column }))
+            match name.copy(alloc) {
+                Ok(column) => Ok(ResolvedExpr::Error(ResolveError::NoQualifiedColumn {
+                    table,
+                    column,
+                })),
+                Err(e) => {
+                    drop(table);
+                    Err(e)
+                }
+            }
         }
     }
 }
@@ -72,13 +80,30 @@ fn negated_if(alloc: Global, negated: bool, expr: ResolvedExpr) -> Result<Resolv
     ensures { IfOk result (λ p. p ≡ spec.negated_if negated expr) }
 {
     if negated {
-        let operand = Boxed::new(alloc, expr)?;
-        Ok(ResolvedExpr::Unary {
-            op: UnaryOp::Not,
-            operand,
-        })
+        unary_of(UnaryOp::Not, in_box(alloc, expr))
     } else {
         Ok(expr)
+    }
+}
+
+fn in_box(alloc: Global, expr: ResolvedExpr) -> Result<Boxed<ResolvedExpr>, NoMemory>
+    ensures { IfOk result (λ p. p ≡ expr) }
+{
+    match Boxed::new(alloc, expr) {
+        Ok(place) => Ok(place),
+        Err(e) => Err(NoMemory::from(e)),
+    }
+}
+
+fn unary_of(
+    op: UnaryOp,
+    operand: Result<Boxed<ResolvedExpr>, NoMemory>,
+) -> Result<ResolvedExpr, NoMemory>
+    ensures { spec.IsUnary op operand result }
+{
+    match operand {
+        Ok(operand) => Ok(ResolvedExpr::Unary { op, operand }),
+        Err(e) => Err(e),
     }
 }
 
@@ -91,8 +116,10 @@ fn boxed(
 ) -> Result<Boxed<ResolvedExpr>, NoMemory>
     ensures { IfOk result (λ p. p ≡ spec.resolved scope.now expr.now aggregates) }
 {
-    let resolved = resolve(alloc, scope, expr, aggregates)?;
-    Ok(Boxed::new(alloc, resolved)?)
+    match resolve(alloc, scope, expr, aggregates) {
+        Ok(resolved) => in_box(alloc, resolved),
+        Err(e) => Err(e),
+    }
 }
 
 #[cycle(resolving)]
@@ -106,7 +133,13 @@ fn all_resolved(
 {
     let mut found = Items::new(alloc);
     for expr in exprs {
-        found.push(resolve(alloc, scope, expr, aggregates)?)?;
+        match resolve(alloc, scope, expr, aggregates) {
+            Ok(resolved) => found.push(resolved)?,
+            Err(e) => {
+                drop(found);
+                return Err(e);
+            }
+        }
     }
     Ok(found)
 }
@@ -122,7 +155,7 @@ fn sole_argument(
 {
     match args.first() {
         Some(arg) => boxed(alloc, scope, arg, aggregates),
-        None => Ok(Boxed::new(alloc, ResolvedExpr::Literal(Value::Null))?),
+        None => in_box(alloc, ResolvedExpr::Literal(Value::Null)),
     }
 }
 
@@ -137,16 +170,13 @@ fn applied_to(
     ensures { IfOk result (λ p. p ≡ spec.applied_to function (map (spec.resolved scope.now) args.now) aggregates) }
 {
     match function {
-        Function::Unary(op) => {
-            let operand = sole_argument(alloc, scope, args, aggregates)?;
-            Ok(ResolvedExpr::Unary { op, operand })
+        Function::Unary(op) => unary_of(op, sole_argument(alloc, scope, args, aggregates)),
+        Function::Coalesce | Function::IfNull => {
+            match all_resolved(alloc, scope, args, aggregates) {
+                Ok(list) => Ok(ResolvedExpr::Coalesce(list)),
+                Err(e) => Err(e),
+            }
         }
-        Function::Coalesce => Ok(ResolvedExpr::Coalesce(all_resolved(
-            alloc, scope, args, aggregates,
-        )?)),
-        Function::IfNull => Ok(ResolvedExpr::Coalesce(all_resolved(
-            alloc, scope, args, aggregates,
-        )?)),
         Function::Aggregate(op) => {
             if aggregates {
                 let operand = sole_argument(alloc, scope, args, false)?;
@@ -155,8 +185,7 @@ fn applied_to(
                 Ok(ResolvedExpr::Error(ResolveError::MisuseOfAggregate))
             }
         }
-        Function::Random => Ok(ResolvedExpr::Literal(Value::Null)),
-        Function::RandomBlob => Ok(ResolvedExpr::Literal(Value::Null)),
+        Function::Random | Function::RandomBlob => Ok(ResolvedExpr::Literal(Value::Null)),
     }
 }
 
@@ -182,20 +211,6 @@ fn call(
     }
 }
 
-#[cycle(resolving)]
-fn unary(
-    alloc: Global,
-    scope: &Scope,
-    op: UnaryOp,
-    operand: &Expr,
-    aggregates: bool,
-) -> Result<ResolvedExpr, NoMemory>
-    ensures { IfOk result (λ p. p ≡ spec.unary_of op (spec.resolved scope.now operand.now aggregates)) }
-{
-    let operand = boxed(alloc, scope, operand, aggregates)?;
-    Ok(ResolvedExpr::Unary { op, operand })
-}
-
 /// The expression with places for its names and operators for its calls. `aggregates` says that it stands where aggregates may.
 #[cycle(resolving)]
 pub fn resolve(
@@ -218,16 +233,29 @@ pub fn resolve(
         } => qualified_column(alloc, scope, table, name, aggregates),
         Expr::CountAll => Ok(count_all(aggregates)),
         Expr::Call { name, args } => call(alloc, scope, name, args.as_slice(), aggregates),
-        Expr::Minus(operand) => unary(alloc, scope, UnaryOp::Minus, operand.get(), aggregates),
-        Expr::Not(operand) => unary(alloc, scope, UnaryOp::Not, operand.get(), aggregates),
+        Expr::Minus(operand) => {
+            unary_of(
+                UnaryOp::Minus,
+                boxed(alloc, scope, operand.get(), aggregates),
+            )
+        }
+        Expr::Not(operand) => unary_of(
+            UnaryOp::Not,
+            boxed(alloc, scope, operand.get(), aggregates),
+        ),
         Expr::Binary { op, left, right } => {
             let left = boxed(alloc, scope, left.get(), aggregates)?;
-            let right = boxed(alloc, scope, right.get(), aggregates)?;
-            Ok(ResolvedExpr::Binary {
-                op: *op,
-                left,
-                right,
-            })
+            match boxed(alloc, scope, right.get(), aggregates) {
+                Ok(right) => Ok(ResolvedExpr::Binary {
+                    op: *op,
+                    left,
+                    right,
+                }),
+                Err(e) => {
+                    drop(left);
+                    Err(e)
+                }
+            }
         }
         Expr::InList {
             negated,
@@ -235,8 +263,13 @@ pub fn resolve(
             list,
         } => {
             let left = boxed(alloc, scope, left.get(), aggregates)?;
-            let list = all_resolved(alloc, scope, list.as_slice(), aggregates)?;
-            negated_if(alloc, *negated, ResolvedExpr::InList { left, list })
+            match all_resolved(alloc, scope, list.as_slice(), aggregates) {
+                Ok(list) => negated_if(alloc, *negated, ResolvedExpr::InList { left, list }),
+                Err(e) => {
+                    drop(left);
+                    Err(e)
+                }
+            }
         }
         Expr::Between {
             negated,
