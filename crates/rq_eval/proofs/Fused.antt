@@ -8,7 +8,6 @@ use Rattle.rq_grammar.specs.declared.expr.Expr.TheOpen.{Expr-F}
 use Rattle.rq_grammar.specs.declared.expr.Expr.TheViews.{roll-Expr}
 use Rattle.rq_grammar.specs.declared.expr.Expr.TheFolds.{fold-roll-Expr, ind-Expr, map-Expr}
 use Rattle.rq_eval.specs.declared.error.EvalError.{EvalError}
-use Rattle.rq_eval.specs.declared.error.StmtError.{StmtError}
 use Rattle.rq_eval.specs.declared.error.StmtError.TheVariants as error
 use Rattle.rq_eval.specs.declared.resolved.ResolveError.{ResolveError}
 use Rattle.rq_eval.specs.declared.resolved.ResolveError.TheVariants as wrong

@@ -1,6 +1,6 @@
 -- The operators over values, as docs/SQL.md has them under "The value of an expression".
 -- Source: SQLite, "SQL Language Expressions", but that no kind is turned into another and that overflow is an error.
-use Rattle.std.specs.Prelude.{ℕ, ◌^◌, Bool, true, false, not, ◌||◌, if◌then◌else◌, nat_lt, List, [], ◌∷◌, Option, Some, None, Ok, Err, ℤ, pos, negsuc, ◌+ℤ◌, ◌-ℤ◌, ◌*ℤ◌, neg_ℤ, int_div, int_rem, int_lt}
+use Rattle.std.specs.Prelude.{◌^◌, Bool, true, false, not, ◌||◌, if◌then◌else◌, nat_lt, List, [], ◌∷◌, Option, Some, None, Ok, Err, ℤ, pos, negsuc, ◌+ℤ◌, ◌-ℤ◌, ◌*ℤ◌, neg_ℤ, int_div, int_rem, int_lt}
 use Rattle.std.specs.declared.cmp.Ordering.{Ordering}
 use Rattle.std.specs.Ordering.{int_eq, is_eq, is_le, is_ge}
 use Rattle.rq_values.specs.Order.{value_cmp}
