@@ -14,6 +14,7 @@ ghost use Rattle.rq_cluster.specs.declared.feeding.Stop.TheVariants.{Outside as 
 use crate::giving::give;
 use crate::line_error::LineError;
 use crate::progress::Progress;
+use crate::reason::Reason;
 use crate::standing::shown_clusters_stand;
 use crate::world::World;
 use rq_outside::{CrashDisk, DiskPair, Sink, SinkError};
@@ -47,6 +48,8 @@ impl Progress {
             number: 1,
             held: Vec::new(alloc),
             read: 0,
+            passes: None,
+            is_ended: false,
         }
     }
 }
@@ -87,7 +90,7 @@ pub fn do_line<D: CrashDisk, K: Sink>(
 }
 
 /// The line without a CR at its end.
-fn without_cr(line: &[u8]) -> &[u8]
+pub fn without_cr(line: &[u8]) -> &[u8]
     ensures { result.now ≡ drop_cr line.now }
 {
     if line.is_empty() {
@@ -119,6 +122,7 @@ fn end_line<D: CrashDisk, K: Sink>(
 {
     shown_clusters_stand::<D>();
     if progress.read == MAX_SCRIPT {
+        progress.passes = Some(Reason::LongScript);
         return Err(Stop::Outside);
     }
     match do_line(
@@ -134,7 +138,10 @@ fn end_line<D: CrashDisk, K: Sink>(
             progress.held.clear();
             Ok(())
         }
-        Err(stop) => Err(stop),
+        Err(stop) => {
+            progress.is_ended = true;
+            Err(stop)
+        }
     }
 }
 
@@ -150,9 +157,11 @@ fn hold(progress: &mut Progress, bytes: &[u8]) -> Result<(), Stop>
 {
     let count = bytes.len() as u64;
     if count > MAX_SCRIPT - progress.read {
+        progress.passes = Some(Reason::LongScript);
         return Err(Stop::Outside);
     }
     if progress.held.len() + bytes.len() > MAX_LINE + 1 {
+        progress.passes = Some(Reason::LongLine);
         return Err(Stop::Outside);
     }
     match progress.held.extend_from_slice(bytes) {

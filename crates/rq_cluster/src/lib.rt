@@ -13,6 +13,7 @@ mod new_pairs;
 mod preparing;
 mod progress;
 mod reading_lines;
+mod reason;
 mod running;
 mod standing;
 mod words;
@@ -20,5 +21,6 @@ mod world;
 
 pub use memory_pairs::empty_pairs;
 pub use new_pairs::{MakesDisks, nine_pairs};
+pub use reason::{Form, Reason, Stopped};
 pub use rq_script::laws;
-pub use running::cluster_main;
+pub use running::{Ended, cluster_main, run_cluster};

@@ -1,6 +1,7 @@
 // How far a script was read and done.
 ghost use Rattle.std.specs.Prelude.{◌≤◌, ◌+◌};
 
+use crate::reason::Reason;
 use crate::world::World;
 
 /// How far a script was read and done.
@@ -14,6 +15,10 @@ pub struct Progress {
     pub held: Vec<u8>,
     /// How many bytes were read.
     pub read: u64,
+    /// The limit that the line to come passes, if it was found to.
+    pub passes: Option<Reason>,
+    /// Whether what is held is a line whose LF was read and that was not done.
+    pub is_ended: bool,
     ghost within: { read ≤ 67108864 },
     ghost counted: { number ≤ read + 1 },
 }

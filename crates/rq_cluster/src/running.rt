@@ -3,7 +3,7 @@ ghost use Rattle.std.specs.Prelude.{◌≡◌, ◌≤◌, ◌⊎◌, ◌++◌, [
 ghost use Rattle.rq_outside.specs.Counts.{Rose};
 ghost use Rattle.rq_node.specs.Node.{Node};
 ghost use Rattle.rq_script.specs.Answering.{AppliesAnswerAll};
-ghost use Rattle.rq_script.specs.Cluster.{Server, Cluster, Steps, unanswered};
+ghost use Rattle.rq_script.specs.Cluster.{Server, Cluster, Steps, first_cluster, unanswered};
 ghost use Rattle.rq_script.specs.FromAsks.{IsAsked};
 ghost use Rattle.rq_script.specs.History.{history, node_in, notes_of};
 ghost use Rattle.rq_script.specs.Lines.{Line, IsWithin};
@@ -14,14 +14,16 @@ ghost use Rattle.rq_script.specs.Runs.{Runs};
 ghost use Rattle.rq_script.specs.ScriptLine.{line_of};
 ghost use Rattle.rq_script.specs.Telling.{Tells, ReadsSeeApplied};
 ghost use Rattle.rq_cluster.specs.CommandWords.{wrong_word};
+ghost use Rattle.rq_cluster.specs.Feed.{After};
 ghost use Rattle.rq_cluster.specs.LastLines.{stopped_word, LastLine};
 ghost use Rattle.rq_cluster.specs.Play.{Took, Wrote, IsStatus};
 ghost use Rattle.rq_cluster.specs.Standing.{AreNew, Holds};
 
 use crate::ending::{end_script, last_line, stop_at};
-use crate::feeding::Stop;
+use crate::feeding::{MAX_LINE, Stop, without_cr};
 use crate::progress::Progress;
 use crate::reading_lines::read_all;
+use crate::reason::{Reason, Stopped};
 use crate::standing::shown_clusters_stand;
 use crate::words::{first_wrong, refuse};
 use rq_outside::{CrashDisk, DiskPair, Draws, Sink, Source, Word};
@@ -33,14 +35,26 @@ use rq_script::laws::{
 use rq_settle::each_text_is_prepared;
 use std::alloc::Global;
 
-/// Runs the script that a source gives, and answers the status.
+/// How a run of the top call ends: its status, and why a script was stopped at a line.
+#[derive(Clone, Copy, Debug)]
+pub struct Ended {
+    pub status: u8,
+    /// There only with the status 3.
+    pub stopped: Option<Stopped>,
+}
+
+/// Runs the script that a source gives, from before its first byte, and answers the status.
 fn run_script<S: Source, D: CrashDisk, K: Sink>(
+    progress: &mut Progress,
     alloc: Global,
     source: &mut S,
     sink: &mut K,
     disks: &mut Vec<DiskPair<D>>,
 ) -> u8
-    requires { AreNew D.told D.means disks.old.items }
+    requires new { AreNew D.told D.means disks.old.items }
+    requires after { After [] [] first_cluster progress.old.number progress.old.held.items progress.old.read }
+    requires host { progress.old.world.host ≡ None }
+    requires asks { progress.old.world.asks ≡ 0 }
     ensures wrote { IsTrue S.told → IsTrue D.told → Took K.told (K.taken sink.old) (K.taken sink.new) (Wrote (S.left source.old) (S.left source.new) (Rose (S.faults source.old) (S.faults source.new)) (Holds D.told D.means disks.old.items disks.new.items) result) }
     ensures drained { IsTrue S.told → result ≡ 0 → S.left source.new ≡ [] }
     ensures statuses { (result ≡ 0) ⊎ (result ≡ 3) ⊎ (result ≡ 4) ⊎ (result ≡ 5) ⊎ (result ≡ 6) }
@@ -49,9 +63,8 @@ fn run_script<S: Source, D: CrashDisk, K: Sink>(
 {
     each_text_is_prepared();
     shown_clusters_stand::<D>();
-    let mut progress = Progress::new(alloc);
-    match read_all(&mut progress, alloc, source, disks, sink) {
-        Ok(()) => end_script(&mut progress, alloc, disks, sink),
+    match read_all(progress, alloc, source, disks, sink) {
+        Ok(()) => end_script(progress, alloc, disks, sink),
         Err(Stop::Outside) => stop_at(alloc, sink, progress.number),
         Err(Stop::Source) => last_line(sink, b"stopped: read fault\n", 4),
         Err(Stop::Sink) => 5,
@@ -113,7 +126,6 @@ pub fn cluster_main<S: Source, K: Sink, D: CrashDisk, R: Draws>(
 
     ensures undrawn { draws.new ≡ draws.old }
 {
-    let _draws = draws;
     each_moment_is_kept();
     what_was_chosen_is_kept();
     the_one_log_grows();
@@ -123,8 +135,101 @@ pub fn cluster_main<S: Source, K: Sink, D: CrashDisk, R: Draws>(
     applies_answer_all();
     answers_are_noted();
     reads_see_what_was_applied();
+    run_cluster(alloc, words, source, sink, disks, draws).status
+}
+
+/// What `cluster_main` does, with where and why a script was stopped. Its status is that of `cluster_main`.
+pub fn run_cluster<S: Source, K: Sink, D: CrashDisk, R: Draws>(
+    alloc: Global,
+    words: &[Word],
+    source: &mut S,
+    sink: &mut K,
+    disks: &mut Vec<DiskPair<D>>,
+    draws: &mut R,
+) -> Ended
+    requires { AreNew D.told D.means disks.old.items }
+
+    ensures statuses { IsStatus result.status }
+
+    ensures words { (place : ℕ) (word : List ℕ) → wrong_word words.now ≡ Some (place, word) →
+        Took K.told (K.taken sink.old) (K.taken sink.new) (LastLine 2 (stopped_word place word) result.status) }
+    ensures unread { (place : ℕ) (word : List ℕ) → wrong_word words.now ≡ Some (place, word) → S.left source.new ≡ S.left source.old }
+    ensures unused { (place : ℕ) (word : List ℕ) → wrong_word words.now ≡ Some (place, word) → disks.new ≡ disks.old }
+    ensures right_words { wrong_word words.now ≡ None → result.status ≡ 2 → ⊥ }
+
+    ensures script { wrong_word words.now ≡ None → IsTrue S.told → IsTrue D.told →
+        Took K.told (K.taken sink.old) (K.taken sink.new)
+        (Wrote (S.left source.old) (S.left source.new) (Rose (S.faults source.old) (S.faults source.new)) (Holds D.told D.means disks.old.items disks.new.items) result.status) }
+
+    ensures drained { IsTrue S.told → result.status ≡ 0 → S.left source.new ≡ [] }
+    ensures source { result.status ≡ 4 → Rose (S.faults source.old) (S.faults source.new) }
+    ensures sink { result.status ≡ 5 → Rose (K.faults sink.old) (K.faults sink.new) }
+    ensures complete { wrong_word words.now ≡ None → (Rose (S.faults source.old) (S.faults source.new) → ⊥) → (Rose (K.faults sink.old) (K.faults sink.new) → ⊥) →
+        (result.status ≡ 0) ⊎ (result.status ≡ 3) ⊎ (result.status ≡ 6) }
+    ensures refused { (place : ℕ) (word : List ℕ) → wrong_word words.now ≡ Some (place, word) → (Rose (K.faults sink.old) (K.faults sink.new) → ⊥) →
+        (result.status ≡ 2) ⊎ (result.status ≡ 6) }
+
+    ensures undrawn { draws.new ≡ draws.old }
+{
+    let _draws = draws;
     match first_wrong(words) {
-        Some((place, word)) => refuse(alloc, sink, place, word),
-        None => run_script(alloc, source, sink, disks),
+        Some((place, word)) => Ended {
+            status: refuse(alloc, sink, place, word),
+            stopped: None,
+        },
+        None => run_lines(alloc, source, sink, disks),
     }
+}
+
+/// The same, with where and why the script was stopped.
+fn run_lines<S: Source, D: CrashDisk, K: Sink>(
+    alloc: Global,
+    source: &mut S,
+    sink: &mut K,
+    disks: &mut Vec<DiskPair<D>>,
+) -> Ended
+    requires { AreNew D.told D.means disks.old.items }
+    ensures wrote { IsTrue S.told → IsTrue D.told → Took K.told (K.taken sink.old) (K.taken sink.new) (Wrote (S.left source.old) (S.left source.new) (Rose (S.faults source.old) (S.faults source.new)) (Holds D.told D.means disks.old.items disks.new.items) result.status) }
+    ensures drained { IsTrue S.told → result.status ≡ 0 → S.left source.new ≡ [] }
+    ensures statuses { (result.status ≡ 0) ⊎ (result.status ≡ 3) ⊎ (result.status ≡ 4) ⊎ (result.status ≡ 5) ⊎ (result.status ≡ 6) }
+    ensures source { result.status ≡ 4 → Rose (S.faults source.old) (S.faults source.new) }
+    ensures sink { result.status ≡ 5 → Rose (K.faults sink.old) (K.faults sink.new) }
+{
+    let mut progress = Progress::new(alloc);
+    let status = run_script(&mut progress, alloc, source, sink, disks);
+    let stopped = stopped_with(status, &progress);
+    drop(progress);
+    Ended { status, stopped }
+}
+
+/// Where and why a script was stopped that came so far and ended with this status, if it was.
+fn stopped_with(status: u8, progress: &Progress) -> Option<Stopped> {
+    if status == 3 {
+        Some(stopped_at(progress))
+    } else {
+        None
+    }
+}
+
+/// Where and why a script was stopped that came so far.
+fn stopped_at(progress: &Progress) -> Stopped {
+    let line = if progress.is_ended {
+        without_cr(&progress.held)
+    } else {
+        progress.held.as_slice()
+    };
+    let is_skipped = line.is_empty() || line[0] == b'#';
+    match progress.passes {
+        Some(reason) => at_line(progress.number, reason),
+        None if line.len() > MAX_LINE => at_line(progress.number, Reason::LongLine),
+        None if !is_skipped => at_line(progress.number, progress.world.reason(line)),
+        // A `cluster` line that is missing is charged to the line after the last.
+        None if line.is_empty() => at_line(progress.number, Reason::NoCluster),
+        None => at_line(progress.number + 1, Reason::NoCluster),
+    }
+}
+
+/// At this line for this reason.
+fn at_line(line: u64, reason: Reason) -> Stopped {
+    Stopped { line, reason }
 }

@@ -16,6 +16,7 @@ use crate::arming::Arming;
 use crate::host::Host;
 use crate::line_error::LineError;
 use crate::preparing::items_of;
+use crate::reason::{Reason, misspelled, node_of};
 use crate::standing::shown_clusters_stand;
 use rq_outside::{CrashDisk, DiskPair};
 use rq_script::{ScriptLine, script_line};
@@ -75,6 +76,27 @@ impl World {
         match &self.host {
             Some(host) => host.write_pending(alloc, text),
             None => Ok(()),
+        }
+    }
+
+    /// Why a line that can't stand here can't.
+    pub fn reason(&self, line: &[u8]) -> Reason {
+        let Some(read) = script_line(line) else {
+            return misspelled(line);
+        };
+        let Some(host) = &self.host else {
+            return match read {
+                ScriptLine::Cluster { id: _ } => misspelled(line),
+                _ => Reason::NoCluster,
+            };
+        };
+        match node_of(&read) {
+            None => Reason::NoSuchLine,
+            Some(id) if *host.id() != id => match read {
+                ScriptLine::Cluster { id: _ } => Reason::SecondCluster,
+                _ => Reason::NoNode(id),
+            },
+            Some(id) => reason_at(&read, id, host.is_running(), line),
         }
     }
 
@@ -379,5 +401,23 @@ impl World {
         let _disks = disks;
         host.show(alloc, text)?;
         Ok(())
+    }
+}
+
+/// Why a line can't stand that names a node of the cluster.
+fn reason_at(read: &ScriptLine<'_>, id: Id, is_running: bool, line: &[u8]) -> Reason {
+    match read {
+        ScriptLine::Cluster { id: _ } => Reason::SecondCluster,
+        ScriptLine::Execute { id: _, body: _ } | ScriptLine::Query { id: _, body: _ } => {
+            Reason::NoStatements
+        }
+        ScriptLine::Stop { id: _ }
+        | ScriptLine::StopWithin {
+            id: _,
+            calls: _,
+            pick: _,
+        } if !is_running => Reason::Down(id),
+        ScriptLine::Start { id: _ } if is_running => Reason::Running(id),
+        _ => misspelled(line),
     }
 }

@@ -6,12 +6,26 @@ use rq_outside::{CrashDisk, DiskPair, Sink, Source, SureDraws, Word};
 use std::alloc::Global;
 use std::test::Fail;
 
-fn words_of(alloc: Global, list: &[&[u8]]) -> Result<Vec<Word>, Fail> {
+/// The words of a command line.
+pub(crate) fn words_of(alloc: Global, list: &[&[u8]]) -> Result<Vec<Word>, Fail> {
     let mut words = Vec::new(alloc);
-    for word in list {
-        words.push(Word::new(alloc, word).ok().ok_or("memory")?)?;
+    match add_words(alloc, list, &mut words) {
+        Ok(()) => Ok(words),
+        Err(error) => {
+            drop(words);
+            Err(error)
+        }
     }
-    Ok(words)
+}
+
+fn add_words(alloc: Global, list: &[&[u8]], words: &mut Vec<Word>) -> Result<(), Fail> {
+    for word in list {
+        match Word::new(alloc, word) {
+            Ok(word) => words.push(word)?,
+            Err(_) => return Err("memory".into()),
+        }
+    }
+    Ok(())
 }
 
 /// The status that the cluster ends with.

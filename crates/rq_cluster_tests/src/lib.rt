@@ -10,6 +10,8 @@ mod lines;
 #[cfg(test)]
 mod order;
 #[cfg(test)]
+mod reasons;
+#[cfg(test)]
 mod replies;
 #[cfg(test)]
 mod statuses;

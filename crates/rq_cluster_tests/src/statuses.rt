@@ -186,7 +186,7 @@ fn faults(rt: HostRuntime) -> Result<(), Fail> {
 }
 
 // A comment of so many bytes, and then these.
-fn commented(alloc: Global, size: usize, rest: &[u8]) -> Result<Vec<u8>, Fail> {
+pub(crate) fn commented(alloc: Global, size: usize, rest: &[u8]) -> Result<Vec<u8>, Fail> {
     let mut script = vec![in alloc; b'#'; size]?;
     script.extend_from_slice(rest)?;
     Ok(script)
