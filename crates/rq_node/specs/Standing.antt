@@ -3,11 +3,11 @@ use Rattle.std.specs.Prelude.{◌≡◌, ◌⊎◌, ◌+◌, ◌*◌, ℕ, Bool,
 use Rattle.rq_outside.specs.declared.pair.DiskPair.{DiskPair}
 use Rattle.rq_outside.specs.declared.pair.Arm.TheVariants.{Struck}
 use Rattle.rq_outside.specs.Disk.{DiskMeaning}
-use Rattle.rq_outside.specs.Pair.{arm_of}
+use Rattle.rq_outside.specs.Pair.{arm_of, PairRose}
 use Rattle.rq_wal.specs.declared.base.Stored.{Stored}
 use Rattle.rq_wal.specs.declared.error.OpenError.{OpenError}
 use Rattle.rq_wal.specs.declared.file.WalFile.{WalFile}
-use Rattle.rq_wal.specs.Current.{IsCurrent, EachImage}
+use Rattle.rq_wal.specs.Current.{IsCurrent, EachImage, EachSince}
 use Rattle.rq_wal.specs.Calls.{IsShort}
 use Rattle.rq_wal.specs.Later.{DeviceRose}
 use Rattle.rq_node.specs.declared.node.Node.{Node as Running}
@@ -43,12 +43,17 @@ module _ {D F : Type 0} (told : Bool) (means : D → DiskMeaning) where
   abbrev pub IsOpen : DiskPair D F → Running → Type 0
   IsOpen pair node = HasFile pair node.state.id (kept_of node.state) node.file
 
-  -- A write of these things was broken off: by a failing disk, or by an armed pair which passes too few calls for it. Some of them stand.
+  -- The pair is as it was; or whatever a crash at any moment since then left of it stands for what was kept, with the first of these things.
+  abbrev pub Moments : DiskPair D F → DiskPair D F → List ℕ → Kept → List Durable → Type 0
+  Moments old new id kept items = (new ≡ old) ⊎ (IsTrue told → EachSince means (first_base id) old new (IsSomeOf id kept items))
+
+  -- A write of these things was broken off: by a failing disk, or by an armed pair which passes too few calls for it; a count of the pair rose. Some of them stand.
   pub record IsBroken (old new : DiskPair D F) (id : List ℕ) (kept : Kept) (items : List Durable) : Type 0 where
     pub first : Durable
     pub more : List Durable
     pub some : items ≡ first ∷ more
     pub stands : Stands new id kept items
+    pub rose : PairRose means old new
     pub cause : DeviceRose means old new ⊎ (arm_of new ≡ Struck)
     pub struck : arm_of new ≡ Struck → IsShort (4 * length items) (arm_of old)
 

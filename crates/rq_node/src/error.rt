@@ -7,7 +7,7 @@ use rq_values::NoMemory;
 use std::alloc::{AllocError, AllocFailed};
 
 /// Why a node doesn't start.
-#[derive(Clone, Copy, Debug, PartialEq, Eq)]
+#[derive(Clone, Copy)]
 pub enum NodeError {
     /// A disk failed.
     Disk,

@@ -1,6 +1,6 @@
 //! A running node with its log files: docs/RAFT.md.
 ghost use Rattle.std.specs.Prelude.{◌≡◌, ◌⊎◌, ◌<◌, ◌+◌, ◌++◌, ◌∷◌, ◌*◌, ◌^◌, [], List, ℕ, length, map, IsTrue, OnOk, IfOk, IsErrOf, is_some, true};
-ghost use Rattle.rq_outside.specs.Pair.{arm_of, UsedCalls};
+ghost use Rattle.rq_outside.specs.Pair.{arm_of, UsedCalls, PairRose};
 ghost use Rattle.rq_wal.specs.declared.frame.Frame.TheVariants.{Splice};
 ghost use Rattle.rq_outside.specs.declared.pair.Arm.TheVariants.{Struck};
 ghost use Rattle.rq_wal.specs.Calls.{PassesMost};
@@ -9,7 +9,7 @@ ghost use Rattle.rq_node.specs.declared.turn_error.TurnError.TheVariants.{Disk a
 ghost use Rattle.rq_wal.specs.Rules.{AreAllowed};
 ghost use Rattle.rq_node.specs.Files.{frame_of, stored_of};
 ghost use Rattle.rq_node.specs.Node.{Kept, Durable, kept_after};
-ghost use Rattle.rq_node.specs.Standing.{HasFile, IsBroken};
+ghost use Rattle.rq_node.specs.Standing.{HasFile, IsBroken, Moments};
 
 use crate::log_entry::LogEntry;
 use crate::role::Role;
@@ -18,7 +18,7 @@ use crate::waiting::Waiting;
 use rq_engine::Tables;
 use rq_outside::{Disk, DiskPair};
 use rq_values::{Id, NoMemory, Seq};
-use rq_wal::{Frame, WalFile};
+use rq_wal::{Frame, WalFile, logs_stand_while_room_is_made};
 use rq_wire::{Body, Entry};
 use std::alloc::Global;
 use std::collections::VecDeque;
@@ -162,9 +162,12 @@ fn store<D: Disk>(
     ensures no_memory { IsErrOf result OutOfMemory → (id : List ℕ) (kept : Kept) → HasFile D.told D.means disks.old id kept file.old → HasFile D.told D.means disks.new id kept file.new }
     ensures no_memory_arm { IsErrOf result OutOfMemory → arm_of disks.new ≡ arm_of disks.old }
     ensures cause { IsErrOf result DiskFailed → DeviceRose D.means disks.old disks.new ⊎ (arm_of disks.new ≡ Struck) }
+    ensures moments { (id : List ℕ) (kept : Kept) (items : List Durable) → frames.now ≡ map frame_of items → AreAllowed (stored_of id kept) (map frame_of items) → HasFile D.told D.means disks.old id kept file.old → Moments D.told D.means disks.old disks.new id kept items }
+    ensures rose { IsErrOf result DiskFailed → PairRose D.means disks.old disks.new }
     ensures most { PassesMost (4 * length frames.now) (arm_of disks.old) (arm_of disks.new) }
     ensures later { Later D.means disks.old disks.new }
 {
+    logs_stand_while_room_is_made::<D>();
     let Some(mut wal) = file.take() else {
         unreachable!()
     };

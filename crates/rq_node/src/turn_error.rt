@@ -5,7 +5,7 @@ use rq_values::NoMemory;
 use std::alloc::{AllocError, AllocFailed};
 
 /// Why an event of a node wasn't done.
-#[derive(Clone, Copy, Debug, PartialEq, Eq)]
+#[derive(Clone, Copy)]
 pub enum TurnError {
     /// A disk failed: the node has stopped.
     Disk,

@@ -5,12 +5,13 @@ ghost use Rattle.rq_values.specs.Exact.{AreBytes};
 ghost use Rattle.rq_engine.specs.Meaning.{answers};
 ghost use Rattle.rq_engine.specs.Command.{execute_bytes};
 ghost use Rattle.rq_engine.specs.declared.say.Say.TheVariants.{Results};
+ghost use Rattle.rq_wal.specs.Calls.{PassesMost};
 ghost use Rattle.rq_wal.specs.Later.{Later};
 ghost use Rattle.rq_node.specs.declared.turn_error.TurnError.TheVariants.{Disk as DiskFailed, NoMemory as OutOfMemory};
 ghost use Rattle.rq_node.specs.Node.{kept_of, says};
 ghost use Rattle.rq_node.specs.Rules.{execute, execute_sized, taken_up};
 ghost use Rattle.rq_node.specs.Sound.{IsReadable, most_bytes};
-ghost use Rattle.rq_node.specs.Standing.{IsOpen, IsBroken};
+ghost use Rattle.rq_node.specs.Standing.{IsOpen, IsBroken, Moments};
 
 use super::{Node, State, splice_of, store};
 use crate::log_entry::{Content, LogEntry};
@@ -53,6 +54,7 @@ fn are_bytes(bytes: &[u8])
 
 impl Node {
     /// Appends a list of statements at a leader, to be answered when it is applied; else says why not.
+    #[tactic(auto, using(crate::proofs::FileSteps::none_made))]
     pub fn execute<D: Disk>(
         &mut self,
         alloc: Global,
@@ -67,6 +69,8 @@ impl Node {
         ensures open { OnOk result (IsOpen D.told D.means disks.new self.new) }
         ensures calls { OnOk result (UsedCalls (4 * length (execute self.old.state number items).durable) (arm_of disks.old) (arm_of disks.new)) }
         ensures failed { IsErrOf result DiskFailed → IsBroken D.told D.means disks.old disks.new self.old.state.id (kept_of self.old.state) (execute self.old.state number items).durable }
+        ensures moments { Moments D.told D.means disks.old disks.new self.old.state.id (kept_of self.old.state) (execute self.old.state number items).durable }
+        ensures most { PassesMost (4 * length (execute self.old.state number items).durable) (arm_of disks.old) (arm_of disks.new) }
         ensures err { OnErr result (self.new.state ≡ self.old.state) }
         ensures no_memory { IsErrOf result OutOfMemory → IsOpen D.told D.means disks.new self.new }
         ensures no_memory_arm { IsErrOf result OutOfMemory → arm_of disks.new ≡ arm_of disks.old }
@@ -85,6 +89,7 @@ impl Node {
     }
 
     /// Appends an entry with this list, spelled as these bytes. A leader that is the one voter commits it at once.
+    #[tactic(auto, using(crate::proofs::FileSteps::none_made))]
     fn append<D: Disk>(
         &mut self,
         alloc: Global,
@@ -102,6 +107,8 @@ impl Node {
         ensures open { OnOk result (IsOpen D.told D.means disks.new self.new) }
         ensures calls { OnOk result (UsedCalls 4 (arm_of disks.old) (arm_of disks.new)) }
         ensures failed { IsErrOf result DiskFailed → IsBroken D.told D.means disks.old disks.new self.old.state.id (kept_of self.old.state) (taken_up self.old.state number items).durable }
+        ensures moments { Moments D.told D.means disks.old disks.new self.old.state.id (kept_of self.old.state) (taken_up self.old.state number items).durable }
+        ensures most { PassesMost 4 (arm_of disks.old) (arm_of disks.new) }
         ensures err { OnErr result (self.new.state ≡ self.old.state) }
         ensures no_memory { IsErrOf result OutOfMemory → IsOpen D.told D.means disks.new self.new }
         ensures no_memory_arm { IsErrOf result OutOfMemory → arm_of disks.new ≡ arm_of disks.old }

@@ -3,11 +3,12 @@ ghost use Rattle.std.specs.Prelude.{◌≡◌, ◌<◌, ◌-◌, ◌^◌, ◌*�
 ghost use Rattle.rq_values.specs.Text.{is_id};
 ghost use Rattle.rq_outside.specs.Pair.{arm_of, UsedCalls};
 ghost use Rattle.rq_wal.specs.declared.frame.Frame.TheVariants.{Vote};
+ghost use Rattle.rq_wal.specs.Calls.{PassesMost};
 ghost use Rattle.rq_wal.specs.Later.{Later};
 ghost use Rattle.rq_node.specs.declared.turn_error.TurnError.TheVariants.{Disk as DiskFailed, NoMemory as OutOfMemory};
 ghost use Rattle.rq_node.specs.Node.{kept_of};
 ghost use Rattle.rq_node.specs.Rules.{elect, led};
-ghost use Rattle.rq_node.specs.Standing.{IsOpen, IsBroken};
+ghost use Rattle.rq_node.specs.Standing.{IsOpen, IsBroken, Moments};
 
 use super::{Node, splice_of, store};
 use crate::log_entry::{Content, LogEntry};
@@ -22,6 +23,7 @@ use std::alloc::Global;
 impl Node {
     /// Stands for the next term, and answers how many things were made durable. The one voter's own vote is a quorum, so it
     /// leads at once.
+    #[tactic(auto, using(crate::proofs::FileSteps::none_made))]
     pub fn elect<D: Disk>(
         &mut self,
         alloc: Global,
@@ -34,6 +36,8 @@ impl Node {
         ensures calls { IfOk result (λ count. UsedCalls (4 * count) (arm_of disks.old) (arm_of disks.new)) }
         ensures answers { (elect self.old.state).answers ≡ [] }
         ensures failed { IsErrOf result DiskFailed → IsBroken D.told D.means disks.old disks.new self.old.state.id (kept_of self.old.state) (elect self.old.state).durable }
+        ensures moments { Moments D.told D.means disks.old disks.new self.old.state.id (kept_of self.old.state) (elect self.old.state).durable }
+        ensures most { PassesMost (4 * length (elect self.old.state).durable) (arm_of disks.old) (arm_of disks.new) }
         ensures err { OnErr result (self.new.state ≡ self.old.state) }
         ensures no_memory { IsErrOf result OutOfMemory → IsOpen D.told D.means disks.new self.new }
         ensures no_memory_arm { IsErrOf result OutOfMemory → arm_of disks.new ≡ arm_of disks.old }
@@ -47,6 +51,7 @@ impl Node {
     }
 
     /// Goes to the next term, votes for itself, and leads.
+    #[tactic(auto, using(crate::proofs::FileSteps::none_made))]
     fn lead<D: Disk>(&mut self, alloc: Global, disks: &mut DiskPair<D>) -> Result<(), TurnError>
         requires open { IsOpen D.told D.means disks.old self.old }
         requires term { self.old.state.term < 2 ^ 64 - 1 }
@@ -54,6 +59,8 @@ impl Node {
         ensures open { OnOk result (IsOpen D.told D.means disks.new self.new) }
         ensures calls { OnOk result (UsedCalls 8 (arm_of disks.old) (arm_of disks.new)) }
         ensures failed { IsErrOf result DiskFailed → IsBroken D.told D.means disks.old disks.new self.old.state.id (kept_of self.old.state) (led self.old.state).durable }
+        ensures moments { Moments D.told D.means disks.old disks.new self.old.state.id (kept_of self.old.state) (led self.old.state).durable }
+        ensures most { PassesMost 8 (arm_of disks.old) (arm_of disks.new) }
         ensures err { OnErr result (self.new.state ≡ self.old.state) }
         ensures no_memory { IsErrOf result OutOfMemory → IsOpen D.told D.means disks.new self.new }
         ensures no_memory_arm { IsErrOf result OutOfMemory → arm_of disks.new ≡ arm_of disks.old }

@@ -1,7 +1,7 @@
 //! Starting a node: docs/RAFT.md, "Start".
 ghost use Rattle.std.specs.Prelude.{◌≡◌, ◌≢◌, ◌⊎◌, ◌≤◌, ◌<◌, ◌+◌, ◌++◌, ◌∷◌, ◌^◌, [], List, ℕ, length, map, take, Ok, Some, IsTrue, IfOk, IfErr, OnOk, OnErr, IsErrOf, All};
 ghost use Rattle.rq_values.specs.Text.{is_addr};
-ghost use Rattle.rq_outside.specs.Pair.{arm_of, disk_at};
+ghost use Rattle.rq_outside.specs.Pair.{arm_of, disk_at, PairRose};
 ghost use Rattle.rq_outside.specs.declared.pair.FileNo.TheVariants.{One, Two};
 ghost use Rattle.rq_outside.specs.declared.pair.Arm.TheVariants.{Struck};
 ghost use Rattle.rq_wire.specs.declared.entry.Entry.{Entry as TheEntry};
@@ -56,6 +56,7 @@ impl Node {
         ensures open { IfOk result (λ node. IsOpen D.told D.means disks.new node) }
         ensures failed { IsErrOf result DiskFailed → (kept : Kept) (items : List Durable) → CanBeRead kept items → Stands D.told D.means disks.old id kept items → FailedOpening D.told D.means disks.new id kept items }
         ensures refused { IsTrue D.told → (kept : Kept) (items : List Durable) → CanBeRead kept items → Stands D.told D.means disks.old id kept items → IfErr result (λ e. (e ≡ DiskFailed) ⊎ (Stands D.told D.means disks.new id kept items × ((e ≡ OutOfMemory) ⊎ ((boot : ℕ) × (e ≡ Ended boot))))) }
+        ensures rose { IsErrOf result DiskFailed → PairRose D.means disks.old disks.new }
         ensures cause { IsErrOf result DiskFailed → DeviceRose D.means disks.old disks.new ⊎ (arm_of disks.new ≡ Struck) }
         ensures arm { PassesMost 14 (arm_of disks.old) (arm_of disks.new) }
         ensures later { Later D.means disks.old disks.new }
@@ -82,6 +83,7 @@ fn open_files<D: Disk>(
     ensures given { IsTrue D.told → (kept : Kept) (items : List Durable) → Stands D.told D.means disks.old id kept items → IfOk result (λ opened. IsSomeOf id kept items (Ok opened.1)) }
     ensures stands { (kept : Kept) (items : List Durable) → Stands D.told D.means disks.old id kept items → Stands D.told D.means disks.new id kept items }
     ensures refused { IsTrue D.told → (kept : Kept) (items : List Durable) → Stands D.told D.means disks.old id kept items → IfErr result (λ e. (e ≡ DiskFailed) ⊎ (e ≡ OutOfMemory)) }
+    ensures rose { IsErrOf result DiskFailed → PairRose D.means disks.old disks.new }
     ensures cause { IsErrOf result DiskFailed → DeviceRose D.means disks.old disks.new ⊎ (arm_of disks.new ≡ Struck) }
     ensures arm { PassesMost 10 (arm_of disks.old) (arm_of disks.new) }
     ensures later { Later D.means disks.old disks.new }
@@ -148,6 +150,7 @@ fn store_boot<D: Disk>(
     ensures failed { IsErrOf result DiskFailed → (kept : Kept) → HasFile D.told D.means disks.old state.id kept (Some wal) → Stands D.told D.means disks.new state.id kept (Boot state.boot ∷ []) }
     ensures no_memory { IsErrOf result OutOfMemory → (kept : Kept) → HasFile D.told D.means disks.old state.id kept (Some wal) → IsTrue D.told → EachImageGives D.means (first_base state.id) disks.new (stored_of state.id kept) }
     ensures refused { IfErr result (λ e. (e ≡ DiskFailed) ⊎ (e ≡ OutOfMemory)) }
+    ensures rose { IsErrOf result DiskFailed → PairRose D.means disks.old disks.new }
     ensures cause { IsErrOf result DiskFailed → DeviceRose D.means disks.old disks.new ⊎ (arm_of disks.new ≡ Struck) }
     ensures arm { PassesMost 4 (arm_of disks.old) (arm_of disks.new) }
     ensures later { Later D.means disks.old disks.new }

@@ -7,7 +7,7 @@ use Rattle.rq_wal.specs.Spelling.{piece_of}
 use Rattle.rq_wal.specs.declared.file.WalFile.{WalFile}
 use Rattle.rq_node.specs.Files.{first_base, frame_of, stored_of}
 use Rattle.rq_node.specs.Standing.{HasFile}
-use Rattle.rq_node.proofs.FileSteps.{file_at_rest, file_more, some_stand, device_later}
+use Rattle.rq_node.proofs.FileSteps.{file_at_rest, file_more, some_stand, device_later, pair_later, some_since, none_since}
 use Rattle.rq_node.proofs.node.store.Goals as goal
 
 pub write-requires-clause-at_rest : goal.write-requires-clause-at_rest
@@ -38,6 +38,36 @@ returns-in-Err-write-clause-failed g c = λ refused id kept first more is allowe
       stands = some_stand told means c.write.new.disks id kept (first ∷ more) c.args.frames.now is
           (λ tells. c.in-Err-write.ensures.some_now tells (first_base id) (stored_of id kept) c.args.frames.now c.in-Ok.ensures.batch (subst (AreAllowed (stored_of id kept)) (sym is) allowed)
           (c.ready.ensures.current tells (first_base id) (stored_of id kept) (current tells)));
+      rose = pair_later means c.args.disks.now c.ready.new.disks c.write.new.disks c.ready.ensures.later c.in-Err-write.ensures.cause.failed;
       cause = device_later means c.args.disks.now c.ready.new.disks c.write.new.disks c.ready.ensures.later c.in-Err-write.ensures.device;
       struck = λ s. subst (λ (n : ℕ). IsShort (4 * n) (arm_of c.args.disks.now)) size (subst (IsShort (4 * length c.in-Ok.batch)) c.ready.ensures.arm (c.in-Err-write.ensures.struck s));
     }
+
+pub returns-in-Err-write-clause-rose : goal.returns-in-Err-write-clause-rose
+returns-in-Err-write-clause-rose g c = λ refused. pair_later g.D.Disk.means c.args.disks.now c.ready.new.disks c.write.new.disks c.ready.ensures.later c.in-Err-write.ensures.cause.failed
+
+pub returns-in-Ok-write-clause-moments : goal.returns-in-Ok-write-clause-moments
+returns-in-Ok-write-clause-moments g c = λ id kept items is allowed has.
+    let told = g.D.Disk.told in
+    let means = g.D.Disk.means in
+    let some : c.args.file.now ≡ Some c.in-Some.wal = sym c.take.ensures.value ∙ c.in-Some.is in
+    some_since told means c.args.disks.now c.ready.new.disks c.write.new.disks c.in-Some.wal c.ready.new.self id kept items c.args.frames.now c.ready.ensures.file is allowed
+    (subst (λ (f : Option WalFile). HasFile told means c.args.disks.now id kept f) some has) c.ready.ensures.waits
+    (λ tells stored each current room. c.in-Ok-write.ensures.moments tells c.args.disks.now (first_base id) stored c.args.frames.now c.in-Ok.ensures.batch each current room)
+
+pub returns-in-Err-write-clause-moments : goal.returns-in-Err-write-clause-moments
+returns-in-Err-write-clause-moments g c = λ id kept items is allowed has.
+    let told = g.D.Disk.told in
+    let means = g.D.Disk.means in
+    let some : c.args.file.now ≡ Some c.in-Some.wal = sym c.take.ensures.value ∙ c.in-Some.is in
+    some_since told means c.args.disks.now c.ready.new.disks c.write.new.disks c.in-Some.wal c.ready.new.self id kept items c.args.frames.now c.ready.ensures.file is allowed
+    (subst (λ (f : Option WalFile). HasFile told means c.args.disks.now id kept f) some has) c.ready.ensures.waits
+    (λ tells stored each current room. c.in-Err-write.ensures.moments tells c.args.disks.now (first_base id) stored c.args.frames.now c.in-Ok.ensures.batch each current room)
+
+pub returns-in-Err-clause-moments : goal.returns-in-Err-clause-moments
+returns-in-Err-clause-moments g c = λ id kept items is allowed has.
+    let told = g.D.Disk.told in
+    let means = g.D.Disk.means in
+    let some : c.args.file.now ≡ Some c.in-Some.wal = sym c.take.ensures.value ∙ c.in-Some.is in
+    none_since told means c.logs_stand_while_room_is_made.ensures c.args.disks.now c.ready.new.disks c.in-Some.wal id kept items
+    (subst (λ (f : Option WalFile). HasFile told means c.args.disks.now id kept f) some has) c.ready.ensures.waits

@@ -6,7 +6,7 @@ use Rattle.rq_node.specs.declared.log_entry.Content.TheVariants.{Execute}
 use Rattle.rq_node.specs.Node.{Node, Kept, Splice, kept_of}
 use Rattle.rq_node.specs.Rules.{taken_up, entry_in}
 use Rattle.rq_node.specs.Sound.{AreReadable, most_bytes}
-use Rattle.rq_node.specs.Standing.{HasFile, IsBroken}
+use Rattle.rq_node.specs.Standing.{HasFile, IsBroken, Moments}
 use Rattle.rq_node.proofs.Allowed.{taken_allowed}
 use Rattle.rq_node.proofs.Kept.{kept_taken, taken_frames}
 use Rattle.rq_node.proofs.Readable.{readable_more}
@@ -62,3 +62,27 @@ returns-clause-open g c =
 
 pub store-requires-clause-open : goal.store-requires-clause-open
 store-requires-clause-open g c κs within = (c.args.self.now.state.id, kept_of c.args.self.now.state, c.requires.open)
+
+pub returns-in-Err-clause-moments : goal.returns-in-Err-clause-moments
+returns-in-Err-clause-moments g c =
+    let told = g.D.Disk.told in
+    let means = g.D.Disk.means in
+    let v = the_view c.state.inside in
+    let at : c.in_ok-index.index ≡ length v.log + 1 = c.in_ok-index.ensures ∙ ap (λ (k : Node). length k.log + 1) (sym c.state.view_is) in
+    let has = subst (λ (k : Node). HasFile told means c.args.disks.now k.id (kept_of k) c.args.self.now.file) (sym c.state.view_is) c.requires.open in
+    let frames = taken_frames v c.args.number c.args.items c.in_ok-splice.splice c.in_ok-index.index c.args.command c.in_ok-splice.ensures.frame c.requires.spelled at in
+    let allowed = taken_allowed v c.args.number c.args.items c.splice_of.ensures.term (subst (λ (k : ℕ). k < 2 ^ 64) at c.splice_of.ensures.index) (subst (λ (l : List ℕ). length l ≤ most_bytes) c.requires.spelled c.requires.fits) (subst AreBytes c.requires.spelled c.requires.bytes) in
+    subst (λ (k : Node). Moments told means c.args.disks.now c.store.new.disks k.id (kept_of k) (taken_up k c.args.number c.args.items).durable) c.state.view_is
+    (c.store.ensures.moments v.id (kept_of v) (taken_up v c.args.number c.args.items).durable frames allowed has)
+
+pub returns-clause-moments : goal.returns-clause-moments
+returns-clause-moments g c =
+    let told = g.D.Disk.told in
+    let means = g.D.Disk.means in
+    let v = the_view c.state.inside in
+    let at : c.in_ok-index.index ≡ length v.log + 1 = c.in_ok-index.ensures ∙ ap (λ (k : Node). length k.log + 1) (sym c.state.view_is) in
+    let has = subst (λ (k : Node). HasFile told means c.args.disks.now k.id (kept_of k) c.args.self.now.file) (sym c.state.view_is) c.requires.open in
+    let frames = taken_frames v c.args.number c.args.items c.in_ok-splice.splice c.in_ok-index.index c.args.command c.in_ok-splice.ensures.frame c.requires.spelled at in
+    let allowed = taken_allowed v c.args.number c.args.items c.splice_of.ensures.term (subst (λ (k : ℕ). k < 2 ^ 64) at c.splice_of.ensures.index) (subst (λ (l : List ℕ). length l ≤ most_bytes) c.requires.spelled c.requires.fits) (subst AreBytes c.requires.spelled c.requires.bytes) in
+    subst (λ (k : Node). Moments told means c.args.disks.now c.store.new.disks k.id (kept_of k) (taken_up k c.args.number c.args.items).durable) c.state.view_is
+    (c.store.ensures.moments v.id (kept_of v) (taken_up v c.args.number c.args.items).durable frames allowed has)

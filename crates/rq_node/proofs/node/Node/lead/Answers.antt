@@ -5,7 +5,7 @@ use Rattle.rq_node.specs.declared.log_entry.Content.TheVariants.{NoOp}
 use Rattle.rq_node.specs.Node.{Node, Kept, Vote, Splice, kept_of}
 use Rattle.rq_node.specs.Rules.{led}
 use Rattle.rq_node.specs.Sound.{AreReadable}
-use Rattle.rq_node.specs.Standing.{HasFile, IsBroken}
+use Rattle.rq_node.specs.Standing.{HasFile, IsBroken, Moments}
 use Rattle.rq_node.proofs.Allowed.{led_allowed}
 use Rattle.rq_node.proofs.Kept.{kept_led, led_frames}
 use Rattle.rq_node.proofs.Readable.{readable_more}
@@ -58,3 +58,27 @@ returns-clause-open g c =
     subst (λ (l : List LogEntry). HasFile told means c.store.new.disks v.id (record (kept_of (led v).node) { log = l }) c.store.new.file) (sym grown)
     (subst (λ (k : Kept). HasFile told means c.store.new.disks v.id k c.store.new.file) (kept_led v)
     (c.in-Ok.ensures.ok v.id (kept_of v) (led v).durable frames allowed has))
+
+pub returns-in-Err-clause-moments : goal.returns-in-Err-clause-moments
+returns-in-Err-clause-moments g c =
+    let told = g.D.Disk.told in
+    let means = g.D.Disk.means in
+    let v = the_view c.state.inside in
+    let at : c.in_ok-index.index ≡ length v.log + 1 = c.in_ok-index.ensures ∙ ap (λ (k : Node). length k.log + 1) (sym c.state.view_is) in
+    let has = subst (λ (k : Node). HasFile told means c.args.disks.now k.id (kept_of k) c.args.self.now.file) (sym c.state.view_is) c.requires.open in
+    let frames = led_frames v c.vote_for-vote.result c.in_ok-splice.splice c.in_ok-index.index c.vote_for-vote.ensures.frame c.in_ok-splice.ensures.frame at in
+    let allowed = led_allowed v c.vote_for-vote.ensures.id c.vote_for-vote.ensures.term (subst (λ (k : ℕ). k < 2 ^ 64) at c.splice_of.ensures.index) in
+    subst (λ (k : Node). Moments told means c.args.disks.now c.store.new.disks k.id (kept_of k) (led k).durable) c.state.view_is
+    (c.store.ensures.moments v.id (kept_of v) (led v).durable frames allowed has)
+
+pub returns-clause-moments : goal.returns-clause-moments
+returns-clause-moments g c =
+    let told = g.D.Disk.told in
+    let means = g.D.Disk.means in
+    let v = the_view c.state.inside in
+    let at : c.in_ok-index.index ≡ length v.log + 1 = c.in_ok-index.ensures ∙ ap (λ (k : Node). length k.log + 1) (sym c.state.view_is) in
+    let has = subst (λ (k : Node). HasFile told means c.args.disks.now k.id (kept_of k) c.args.self.now.file) (sym c.state.view_is) c.requires.open in
+    let frames = led_frames v c.vote_for-vote.result c.in_ok-splice.splice c.in_ok-index.index c.vote_for-vote.ensures.frame c.in_ok-splice.ensures.frame at in
+    let allowed = led_allowed v c.vote_for-vote.ensures.id c.vote_for-vote.ensures.term (subst (λ (k : ℕ). k < 2 ^ 64) at c.splice_of.ensures.index) in
+    subst (λ (k : Node). Moments told means c.args.disks.now c.store.new.disks k.id (kept_of k) (led k).durable) c.state.view_is
+    (c.store.ensures.moments v.id (kept_of v) (led v).durable frames allowed has)

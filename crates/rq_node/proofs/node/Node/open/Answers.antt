@@ -11,6 +11,7 @@ use Rattle.rq_outside.specs.declared.pair.FileNo.TheVariants.{One, Two}
 use Rattle.rq_wal.specs.Reading.{pair_gives}
 use Rattle.rq_node.specs.Standing.{Stands}
 use Rattle.rq_node.proofs.Openings.{current_base, taken, some_given, failed_boot, started_file, booted, ok_more, boot_refused, files_refused, refuses_more, state_refused}
+use Rattle.rq_node.proofs.FileSteps.{pair_later}
 use Rattle.rq_node.proofs.node.Node.open.Goals as goal
 
 pub store_boot-requires-clause-open : goal.store_boot-requires-clause-open
@@ -102,3 +103,6 @@ returns-in-Err-started_state-clause-refusals g c = λ tells.
     let means = g.D.Disk.means in
     let reading = pair_gives (first_base c.args.id) (means (disk_at c.args.disks.now One)).content (means (disk_at c.args.disks.now Two)).content in
     state_refused reading c.in-Ok.stored c.in-Err-started_state.error (c.in-Ok.ensures.gives tells) c.in-Err-started_state.ensures.wrong
+
+pub returns-in-Ok-started_state-clause-rose : goal.returns-in-Ok-started_state-clause-rose
+returns-in-Ok-started_state-clause-rose g c = λ refused. pair_later g.D.Disk.means c.args.disks.now c.open_files.new.disks c.store_boot.new.disks c.open_files.ensures.later (c.store_boot.ensures.rose refused)
