@@ -51,7 +51,7 @@ fn first_base(alloc: Global) -> Result<Base, Fail>
         boot: 0,
         index: 0,
         last_term: 0,
-        config: Config::new(members(alloc)?),
+        config: Config::new(members(alloc)?).ok_or("ids that don't rise")?,
         state,
     })
 }

@@ -1,4 +1,4 @@
-use rq_values::{Rowid, Text, TryCopy, Value, next_i64, put_i64};
+use rq_values::{Rowid, Text, TryCopy, Value, decode_whole, next_i64, put_i64};
 use std::alloc::Global;
 use std::test::Fail;
 
@@ -82,6 +82,15 @@ fn texts_that_are_taken_over(rt: HostRuntime) -> Result<(), Fail> {
     Ok(())
 }
 
+fn is_whole(alloc: Global, bytes: &[u8], value: &Value) -> Result<bool, Fail> {
+    let read = decode_whole::<Value>(alloc, bytes, 5)
+        .ok()
+        .ok_or("refused")?;
+    let is = read == *value;
+    drop(read);
+    Ok(is)
+}
+
 fn is_signed(alloc: Global, number: i64) -> Result<bool, Fail> {
     let mut bytes = Vec::new(alloc);
     put_i64(number, &mut bytes)?;
@@ -98,9 +107,10 @@ fn is_copied(alloc: Global, value: Option<Value>) -> Result<bool, Fail> {
 }
 
 #[test]
-fn numbers_and_options(rt: HostRuntime) -> Result<(), Fail> {
+fn numbers_options_and_whole_inputs(rt: HostRuntime) -> Result<(), Fail> {
     let alloc = rt.alloc();
     assert!(rt; is_signed(alloc, -2)? && is_signed(alloc, i64::MAX)?);
+    assert!(rt; is_whole(alloc, b"\0", &Value::Null)?);
     assert!(rt; is_copied(alloc, Some(Value::Int(3)))? && is_copied(alloc, None)?);
     assert!(rt; Rowid(-1) < Rowid(2) && Value::Int(9) < Value::Text(Text::empty(alloc)));
     Ok(())

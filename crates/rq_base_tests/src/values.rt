@@ -1,5 +1,5 @@
 use rq_values::{
-    Addr, Bytes, Id, Seq, Text, TryCopy, Value, ValueError, compare, decode, encode, read_text,
+    Addr, Bytes, DecodeError, Id, Seq, Text, TryCopy, Value, compare, decode, encode, read_text,
     read_u32, read_u64,
 };
 use std::alloc::Global;
@@ -56,7 +56,7 @@ fn values_and_their_bytes(rt: HostRuntime) -> Result<(), Fail> {
     Ok(())
 }
 
-fn refusal(alloc: Global, bytes: &[u8]) -> Option<ValueError> {
+fn refusal(alloc: Global, bytes: &[u8]) -> Option<DecodeError> {
     decode(alloc, bytes, 0, 5).err()
 }
 
@@ -65,12 +65,12 @@ fn refusal(alloc: Global, bytes: &[u8]) -> Option<ValueError> {
 fn faults_and_their_places(rt: HostRuntime) -> Result<(), Fail> {
     let alloc = rt.alloc();
     for (bytes, error) in [
-        (b"".as_slice(), ValueError::Short(0)),
-        (b"\x09".as_slice(), ValueError::Kind(0, 9)),
-        (b"\x02\x05\0\0\0f".as_slice(), ValueError::Short(6)),
-        (b"\x02\x06\0\0\0abcdef".as_slice(), ValueError::Long(1, 6)),
-        (b"\x02\x02\0\0\0a\0".as_slice(), ValueError::NotText(1)),
-        (b"\x02\x01\0\0\0\xff".as_slice(), ValueError::NotText(1)),
+        (b"".as_slice(), DecodeError::Short(0)),
+        (b"\x09".as_slice(), DecodeError::Kind(0, 9)),
+        (b"\x02\x05\0\0\0f".as_slice(), DecodeError::Short(6)),
+        (b"\x02\x06\0\0\0abcdef".as_slice(), DecodeError::Long(1, 6)),
+        (b"\x02\x02\0\0\0a\0".as_slice(), DecodeError::NotText(1)),
+        (b"\x02\x01\0\0\0\xff".as_slice(), DecodeError::NotText(1)),
     ] {
         assert!(rt; refusal(alloc, bytes) == Some(error));
     }

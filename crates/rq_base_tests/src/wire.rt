@@ -1,7 +1,5 @@
-use rq_values::{Addr, Bytes, Id, Seq, TryCopy};
-use rq_wire::{
-    Body, Config, Entry, Member, WireError, decode_entry, encode_config, encode_entry, quorum,
-};
+use rq_values::{Addr, Bytes, DecodeError, Id, Seq, TryCopy};
+use rq_wire::{Body, Config, Entry, Member, decode_entry, encode_config, encode_entry, quorum};
 use std::alloc::Global;
 use std::test::Fail;
 
@@ -20,7 +18,7 @@ fn first_config(alloc: Global) -> Result<Config, Fail> {
         http,
         raft,
     })?;
-    Ok(Config::new(members))
+    Ok(Config::new(members).ok_or("ids that don't rise")?)
 }
 
 const CONFIG: &[u8] = b"\x01\0\0\0\x02\0\0\0n1\x01\x07\0\0\0n1:4001\x07\0\0\0n1:4002";
@@ -78,7 +76,7 @@ fn entries_and_their_bytes(rt: HostRuntime) -> Result<(), Fail> {
     Ok(())
 }
 
-fn refusal(alloc: Global, bytes: &[u8]) -> Option<WireError> {
+fn refusal(alloc: Global, bytes: &[u8]) -> Option<DecodeError> {
     decode_entry(alloc, bytes).err()
 }
 
@@ -87,20 +85,26 @@ fn refusal(alloc: Global, bytes: &[u8]) -> Option<WireError> {
 fn faults_and_their_places(rt: HostRuntime) -> Result<(), Fail> {
     let alloc = rt.alloc();
     for (bytes, error) in [
-        (b"\x01\0\0\0\0\0\0".as_slice(), WireError::Short(7)),
-        (b"\x01\0\0\0\0\0\0\0\x03".as_slice(), WireError::Kind(8, 3)),
-        (b"\x01\0\0\0\0\0\0\0\0\0".as_slice(), WireError::Trailing(9)),
+        (b"\x01\0\0\0\0\0\0".as_slice(), DecodeError::Short(7)),
+        (
+            b"\x01\0\0\0\0\0\0\0\x03".as_slice(),
+            DecodeError::Kind(8, 3),
+        ),
+        (
+            b"\x01\0\0\0\0\0\0\0\0\0".as_slice(),
+            DecodeError::Trailing(9),
+        ),
         (
             b"\x01\0\0\0\0\0\0\0\x02\x01\0\x80\0".as_slice(),
-            WireError::Long(9, 8_388_609),
+            DecodeError::Long(9, 8_388_609),
         ),
         (
             b"\x01\0\0\0\0\0\0\0\x01\x01\0\0\0\x01\0\0\0N".as_slice(),
-            WireError::NotText(13),
+            DecodeError::NotText(13),
         ),
         (
             b"\x01\0\0\0\0\0\0\0\x01\x02\0\0\0\x01\0\0\0b\0\x01\0\0\0h\x01\0\0\0r\x01\0\0\0b".as_slice(),
-            WireError::Order(29),
+            DecodeError::Order(29),
         ),
     ] {
         assert!(rt; refusal(alloc, bytes) == Some(error));

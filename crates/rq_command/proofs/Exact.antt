@@ -2,13 +2,14 @@
 use Rattle.std.proofs.Common.{true, ◌≡◌, ℕ, zero, suc, ◌<◌, ◌≤◌, ◌^◌, ◌==◌, List, [], ◌∷◌, ◌++◌, length, Result, cond, nat_le, bytes_eq, refl, sym, ap, subst, ◌∙◌, arith}
 use Rattle.std.proofs.lemmas.Bool.Decides.{nat_tests}
 use Rattle.std.proofs.lemmas.Slice.Eq.{bytes_eq-Decides}
-use Rattle.rq_values.specs.declared.error.Wrong.{Wrong}
-use Rattle.rq_values.specs.declared.error.Wrong.TheVariants.{Kind, Rule}
+use Rattle.rq_values.specs.declared.error.DecodeError.{DecodeError}
+use Rattle.rq_values.specs.declared.error.DecodeError.TheVariants.{Kind, Text}
 use Rattle.rq_values.specs.Text.{is_text}
 use Rattle.rq_values.specs.Spelling.{sized, list_bytes}
 use Rattle.rq_values.specs.Reading.{◌>>=◌, made, checked, u8_at, kind_at, text_at, list_at}
-use Rattle.rq_values.specs.Local.{bind_ok, eq_true, is_eq}
-use Rattle.rq_values.specs.Exact.{AreProper, IsExact, IsKind, IsNamed, exact_bind, exact_made, exact_same, exact_checked, exact_u8, exact_kind, exact_text, exact_list}
+use Rattle.rq_values.proofs.Local.{bind_ok, eq_true, is_eq}
+use Rattle.rq_values.specs.Exact.{AreProper, IsExact, IsKind, IsNamed}
+use Rattle.rq_values.proofs.Exact.{exact_bind, exact_made, exact_same, exact_checked, exact_u8, exact_kind, exact_text, exact_list}
 use Rattle.rq_engine.specs.declared.item.Item.{Item}
 use Rattle.rq_engine.specs.declared.item.Item.TheVariants.{Run, Fail}
 use Rattle.rq_engine.specs.Canonical.{canonical}
@@ -60,8 +61,8 @@ module _ (item_of : List ℕ → Item) (limit : ℕ) where
   exact_run : IsExact (run_at item_of limit) spelled_text (OfKind 0)
   unfolding run_at spelled_text
   exact_run =
-      exact_made (checked (text_at limit) (λ text. is_run_text text (item_of text)) (λ left _. Rule left)) sized IsRunText item_of text_of (OfKind 0)
-      (exact_checked (text_at limit) sized (IsNamed is_text limit) (λ text. is_run_text text (item_of text)) (λ left _. Rule left) (exact_text limit))
+      exact_made (checked (text_at limit) (λ text. is_run_text text (item_of text)) (λ left _. Text left)) sized IsRunText item_of text_of (OfKind 0)
+      (exact_checked (text_at limit) sized (IsNamed is_text limit) (λ text. is_run_text text (item_of text)) (λ left _. Text left) (exact_text limit))
       run_there (λ text p. run_given text (item_of text) refl p.0 p.1)
 
   fail_there : (item : Item) → OfKind 1 item → IsNamed is_text limit (text_of item) × (Fail (text_of item) ≡ item)
@@ -73,7 +74,7 @@ module _ (item_of : List ℕ → Item) (limit : ℕ) where
   unfolding rank_of spelled_text
   exact_fail = exact_made (text_at limit) sized (IsNamed is_text limit) Fail text_of (OfKind 1) (exact_text limit) fail_there (λ text proper. ((refl, proper), refl))
 
-  content_at : ℕ → List ℕ → Result (Item × List ℕ) Wrong
+  content_at : ℕ → List ℕ → Result (Item × List ℕ) DecodeError
   content_at kind bytes = cond (kind == 0) (run_at item_of limit bytes) (made (text_at limit) Fail bytes)
 
   exact_content : (kind : ℕ) → IsKind 1 kind → IsExact (content_at kind) spelled_text (OfKind kind)
@@ -106,7 +107,7 @@ unfolding byte_at
 exact_byte wanted = exact_checked u8_at (λ byte. byte ∷ []) (λ byte. byte < 256) (λ byte. byte == wanted) Kind exact_u8
 
 -- a thing behind the one byte that may stand before it
-exact_behind : {A : Type 0} (wanted : ℕ) (one : List ℕ → Result (A × List ℕ) Wrong) (s : A → List ℕ) (P : A → Type 0) → wanted < 256 → IsExact one s P → IsExact (λ bytes. byte_at wanted bytes >>= λ x. one x.1) (λ a. wanted ∷ s a) P
+exact_behind : {A : Type 0} (wanted : ℕ) (one : List ℕ → Result (A × List ℕ) DecodeError) (s : A → List ℕ) (P : A → Type 0) → wanted < 256 → IsExact one s P → IsExact (λ bytes. byte_at wanted bytes >>= λ x. one x.1) (λ a. wanted ∷ s a) P
 exact_behind {A} wanted one s P fits exact = record {
   reads = λ a rest proper.
       ap (λ r. r >>= λ x. one x.1) ((exact_byte wanted).reads wanted (s a ++ rest) (fits, is_eq wanted wanted refl)) ∙ exact.reads a rest proper;

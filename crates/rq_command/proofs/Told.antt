@@ -1,10 +1,14 @@
 -- What the answer of a whole input tells.
 use Rattle.std.proofs.Common.{true, ◌≡◌, ℕ, suc, ◌-◌, ◌<◌, ◌≤◌, ◌^◌, ◌⊎◌, inl, inr, List, [], ◌∷◌, ◌++◌, length, Result, Ok, Err, cond, nat_lt, refl, sym, ap, subst, ◌∙◌, arith, w8, Fits, get_or}
 use Rattle.std.specs.Prelude.{IfOk}
+use Rattle.std.proofs.lemmas.Bool.{OnFalse_at, OnFalse_from}
 use Rattle.std.proofs.lemmas.Bool.Decides.{nat_tests}
 use Rattle.std.proofs.lemmas.List.{append-nil}
 use Rattle.std.specs.List.{flat_map}
-use Rattle.rq_values.specs.declared.error.Wrong.{Wrong}
+use Rattle.rq_values.specs.declared.error.DecodeError.{DecodeError}
+use Rattle.rq_values.specs.Fault.{is_want_of_memory, placed}
+use Rattle.rq_values.specs.Place.{whole_answer, IsAnswer}
+use Rattle.rq_values.specs.Reading.{Fails}
 use Rattle.rq_values.specs.Text.{is_text}
 use Rattle.rq_values.specs.Spelling.{u32_bytes}
 use Rattle.rq_values.specs.Exact.{AreBytes, AreProper, IsNamed}
@@ -13,11 +17,10 @@ use Rattle.rq_engine.specs.declared.item.Item.TheVariants.{Run, Fail}
 use Rattle.rq_engine.specs.Canonical.{canonical}
 use Rattle.rq_engine.specs.Command.{item_bytes, execute_bytes}
 use Rattle.rq_settle.specs.Prepared.{IsPrepared}
-use Rattle.rq_command.specs.declared.error.CommandError.{CommandError}
-use Rattle.rq_command.specs.declared.error.CommandError.TheVariants as errors
+use Rattle.rq_values.specs.declared.error.DecodeError.TheVariants as errors
 use Rattle.rq_command.specs.Reading.{IsPreparing, command_at}
 use Rattle.rq_command.specs.Stored.{IsItem, IsCommand}
-use Rattle.rq_command.specs.Whole.{whole_answer, answer_by, Decodes, Reads, IsAnswer}
+use Rattle.rq_command.specs.Whole.{answer_by, Decodes, Reads}
 use Rattle.rq_command.proofs.Exact.{IsGiven, AreGiven, exact_command}
 
 -- each text means an item
@@ -29,15 +32,15 @@ abbrev pub OneItem : Type 0
 OneItem = (text : List ℕ) (item other : Item) → IsPrepared text item → IsPrepared text other → item ≡ other
 
 -- what a call returned, by each function that gives the item that a text means
-abbrev pub IsAnswerByEach : ℕ → List ℕ → Result (List Item) CommandError → Type 0
+abbrev pub IsAnswerByEach : ℕ → List ℕ → Result (List Item) DecodeError → Type 0
 IsAnswerByEach limit bytes result = (item_of : List ℕ → Item) → IsPreparing item_of → IsAnswer result (answer_by item_of limit bytes)
 
 -- ---- one answer
 
-pub some_answer : SomeItem → (limit : ℕ) (bytes : List ℕ) → (answer : Result (List Item) CommandError) × Decodes limit bytes answer
+pub some_answer : SomeItem → (limit : ℕ) (bytes : List ℕ) → (answer : Result (List Item) DecodeError) × Decodes limit bytes answer
 some_answer some limit bytes = (answer_by (λ text. (some text).0) limit bytes, record { item_of = λ text. (some text).0; prepares = λ text. (some text).1; is = refl })
 
-pub one_answer : OneItem → (limit : ℕ) (bytes : List ℕ) (answer other : Result (List Item) CommandError) → Decodes limit bytes answer → Decodes limit bytes other → answer ≡ other
+pub one_answer : OneItem → (limit : ℕ) (bytes : List ℕ) (answer other : Result (List Item) DecodeError) → Decodes limit bytes answer → Decodes limit bytes other → answer ≡ other
 one_answer one limit bytes answer other first second =
     first.is
     ∙ (λ i. answer_by (λ text. one text (first.item_of text) (second.item_of text) (first.prepares text) (second.prepares text) i) limit bytes)
@@ -51,18 +54,12 @@ module _ (some : SomeItem) (limit : ℕ) (bytes : List ℕ) where
   unfolding given
   given_prepares text = (some text).1
 
-  told_by : (result : Result (List Item) CommandError) → result ≡ answer_by given limit bytes → Decodes limit bytes result
+  told_by : (result : Result (List Item) DecodeError) → result ≡ answer_by given limit bytes → Decodes limit bytes result
   told_by result is = record { item_of = given; prepares = given_prepares; is = is }
 
-  pub told : (result : Result (List Item) CommandError) → IsAnswerByEach limit bytes result → Reads limit bytes result
+  pub told : (result : Result (List Item) DecodeError) → IsAnswerByEach limit bytes result → Reads limit bytes result
   told (Ok items) h = told_by (Ok items) (h given given_prepares)
-  told (Err (errors.Short place)) h = told_by (Err (errors.Short place)) (h given given_prepares)
-  told (Err (errors.Kind place byte)) h = told_by (Err (errors.Kind place byte)) (h given given_prepares)
-  told (Err (errors.Long place len)) h = told_by (Err (errors.Long place len)) (h given given_prepares)
-  told (Err (errors.NotText place)) h = told_by (Err (errors.NotText place)) (h given given_prepares)
-  told (Err (errors.Text place)) h = told_by (Err (errors.Text place)) (h given given_prepares)
-  told (Err (errors.Trailing place)) h = told_by (Err (errors.Trailing place)) (h given given_prepares)
-  told (Err errors.NoMemory) h = tt
+  told (Err e) h = OnFalse_from (is_want_of_memory e) (Decodes limit bytes (Err e)) (λ known. told_by (Err e) (OnFalse_at known (h given given_prepares)))
 
 -- ---- from items that a function gives to items that are stored, and back
 
@@ -101,7 +98,7 @@ given_items one item_of prepares limit small (item ∷ items) p all = (
 
 -- ---- what an Ok tells, and where it comes
 
-abbrev read_with : List ℕ → List Item → Result (List Item × List ℕ) Wrong
+abbrev read_with : List ℕ → List Item → Result (List Item × List ℕ) DecodeError
 read_with rest items = Ok (items, rest)
 
 positive : (n : ℕ) → nat_lt 0 (suc n) ≡ true
@@ -110,11 +107,11 @@ positive n = grind (arith, nat_tests)
 whole_alone : (total : ℕ) (items found : List Item) (rest : List ℕ) → Ok items ≡ whole_answer total (read_with rest found) → read_with rest found ≡ read_with [] items
 whole_alone total items found [] h = let same : found ≡ items = cc in ap (read_with []) same
 whole_alone total items found (byte ∷ rest) h =
-    let refused : Ok items ≡ Err (errors.Trailing (total - length (byte ∷ rest))) = h ∙ ap (λ b. cond {A = Result (List Item) CommandError} b (Err (errors.Trailing (total - length (byte ∷ rest)))) (Ok found)) (positive (length rest)) in
+    let refused : Ok items ≡ Err (errors.Trailing (total - length (byte ∷ rest))) = h ∙ ap (λ b. cond {A = Result (List Item) DecodeError} b (Err (errors.Trailing (total - length (byte ∷ rest)))) (Ok found)) (positive (length rest)) in
     absurd (cc)
 
 -- the items of an answer stood alone
-whole_ok : (total : ℕ) (read : Result (List Item × List ℕ) Wrong) (items : List Item) → Ok items ≡ whole_answer total read → read ≡ read_with [] items
+whole_ok : (total : ℕ) (read : Result (List Item × List ℕ) DecodeError) (items : List Item) → Ok items ≡ whole_answer total read → read ≡ read_with [] items
 whole_ok total (Ok x) items h = whole_alone total items x.0 x.1 h
 whole_ok total (Err wrong) items h = absurd (cc)
 
@@ -131,22 +128,24 @@ module _ (some : SomeItem) (limit : ℕ) (bytes : List ℕ) (all : AreBytes byte
       let stood = (exact_command item_of limit).stood bytes items [] all read in
       (stood.is ∙ append-nil (execute_bytes items), record { count = stood.proper.0; items_are = stored_items item_of prepares limit items stood.proper.1 })
 
-  pub taken : (result : Result (List Item) CommandError) → IsAnswerByEach limit bytes result → IfOk result (λ items. (bytes ≡ execute_bytes items) × IsCommand limit items)
+  pub taken : (result : Result (List Item) DecodeError) → IsAnswerByEach limit bytes result → IfOk result (λ items. (bytes ≡ execute_bytes items) × IsCommand limit items)
   taken (Ok items) h = taken_ok items h
   taken (Err e) h = tt
 
   module _ (one : OneItem) (small : limit < 2 ^ 32) where
-    answered : (result answer : Result (List Item) CommandError) (items : List Item) → answer ≡ Ok items → IsAnswer result answer → (result ≡ Ok items) ⊎ (result ≡ Err errors.NoMemory)
+    answered : (result answer : Result (List Item) DecodeError) (items : List Item) → answer ≡ Ok items → IsAnswer result answer → (result ≡ Ok items) ⊎ (result ≡ Err errors.NoMemory)
     answered (Ok found) answer items is h = inl (h ∙ is)
     answered (Err (errors.Short place)) answer items is h = inl (h ∙ is)
     answered (Err (errors.Kind place byte)) answer items is h = inl (h ∙ is)
     answered (Err (errors.Long place len)) answer items is h = inl (h ∙ is)
     answered (Err (errors.NotText place)) answer items is h = inl (h ∙ is)
+    answered (Err (errors.Order place)) answer items is h = inl (h ∙ is)
+    answered (Err (errors.Rule place)) answer items is h = inl (h ∙ is)
     answered (Err (errors.Text place)) answer items is h = inl (h ∙ is)
     answered (Err (errors.Trailing place)) answer items is h = inl (h ∙ is)
     answered (Err errors.NoMemory) answer items is h = inr refl
 
-    pub found : (result : Result (List Item) CommandError) → IsAnswerByEach limit bytes result → (items : List Item) → bytes ≡ execute_bytes items → IsCommand limit items → (result ≡ Ok items) ⊎ (result ≡ Err errors.NoMemory)
+    pub found : (result : Result (List Item) DecodeError) → IsAnswerByEach limit bytes result → (items : List Item) → bytes ≡ execute_bytes items → IsCommand limit items → (result ≡ Ok items) ⊎ (result ≡ Err errors.NoMemory)
     found result h items is command =
         let item_of = given some limit bytes in
         let prepares = given_prepares some limit bytes in

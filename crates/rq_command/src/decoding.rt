@@ -1,22 +1,19 @@
 //! Reading a command.
 ghost use Rattle.std.specs.Prelude.{◌≡◌, ◌⊎◌, ℕ, List, IfOk};
+ghost use Rattle.rq_values.specs.Place.{IsAnswer};
 ghost use Rattle.rq_values.specs.Reading.{Gives, NeedsNoMemory, many_at};
 ghost use Rattle.rq_engine.specs.declared.item.Item.{Item};
 ghost use Rattle.rq_engine.specs.Command.{execute_bytes};
-ghost use Rattle.rq_command.specs.declared.error.CommandError.TheVariants as errors;
+ghost use Rattle.rq_values.specs.declared.error.DecodeError.TheVariants as errors;
 ghost use Rattle.rq_command.specs.Reading as spec;
 ghost use Rattle.rq_command.specs.Reading.{IsPreparing, run_at, item_at, byte_at, command_at};
 ghost use Rattle.rq_command.specs.Stored.{IsCommand};
-ghost use Rattle.rq_command.specs.Whole.{IsAnswer, Reads, answer_by};
+ghost use Rattle.rq_command.specs.Whole.{Reads, answer_by};
 
-use crate::error::{CommandError, command_error};
 use rq_engine::{Item, print};
 use rq_settle::{each_text_is_prepared, prepare};
-use rq_values::{NoMemory, ReadError, Seq, Wrong, next_kind, next_text, next_u8, next_u32};
+use rq_values::{DecodeError, MAX_COMMAND, NoMemory, Seq, next_kind, next_text, next_u8, next_u32};
 use std::alloc::Global;
-
-/// The limit of a text's length, in bytes.
-pub const TEXT_LIMIT: u32 = 8_388_608;
 
 /// Whether the item runs, and the text is its statement's canonical text.
 fn is_run_text(alloc: Global, text: &[u8], item: &Item) -> Result<bool, NoMemory>
@@ -34,7 +31,7 @@ fn is_run_text(alloc: Global, text: &[u8], item: &Item) -> Result<bool, NoMemory
 
 /// A statement that runs, by its canonical text.
 #[tactic(auto, unfolding(crate::specs::Reading::run_at))]
-fn next_run(alloc: Global, limit: u32, bytes: &[u8]) -> Result<(Item, &[u8]), ReadError>
+fn next_run(alloc: Global, limit: u32, bytes: &[u8]) -> Result<(Item, &[u8]), DecodeError>
     ensures { (item_of : List ℕ → Item) → IsPreparing item_of → Gives (λ x. (x.0, x.1.now)) result (run_at item_of limit bytes.now) }
 {
     each_text_is_prepared();
@@ -43,13 +40,13 @@ fn next_run(alloc: Global, limit: u32, bytes: &[u8]) -> Result<(Item, &[u8]), Re
     if is_run_text(alloc, text.bytes(), &item)? {
         Ok((item, rest))
     } else {
-        Err(ReadError::Wrong(Wrong::Rule(bytes.len())))
+        Err(DecodeError::Text(bytes.len()))
     }
 }
 
 /// An item: 00 and a statement, or 01 and an error's text.
 #[tactic(auto, unfolding(crate::specs::Reading::item_at))]
-fn next_item(alloc: Global, limit: u32, bytes: &[u8]) -> Result<(Item, &[u8]), ReadError>
+fn next_item(alloc: Global, limit: u32, bytes: &[u8]) -> Result<(Item, &[u8]), DecodeError>
     ensures { (item_of : List ℕ → Item) → IsPreparing item_of → Gives (λ x. (x.0, x.1.now)) result (item_at item_of limit bytes.now) }
 {
     let (kind, rest) = next_kind(1, bytes)?;
@@ -66,7 +63,7 @@ fn next_items(
     limit: u32,
     count: u32,
     bytes: &[u8],
-) -> Result<(Seq<Item>, &[u8]), ReadError>
+) -> Result<(Seq<Item>, &[u8]), DecodeError>
     ensures { (item_of : List ℕ → Item) → IsPreparing item_of → Gives (λ x. (x.0, x.1.now)) result (many_at (item_at item_of limit) count bytes.now) }
 {
     let mut items = Seq::new(alloc);
@@ -81,20 +78,20 @@ fn next_items(
 
 /// The one byte that may stand here.
 #[tactic(auto, unfolding(crate::specs::Reading::byte_at))]
-fn next_byte(wanted: u8, bytes: &[u8]) -> Result<(u8, &[u8]), ReadError>
+fn next_byte(wanted: u8, bytes: &[u8]) -> Result<(u8, &[u8]), DecodeError>
     ensures gives { Gives (λ x. (x.0, x.1.now)) result (byte_at wanted bytes.now) }
     ensures sure { NeedsNoMemory result }
 {
     let (byte, rest) = next_u8(bytes)?;
     if byte != wanted {
-        return Err(ReadError::Wrong(Wrong::Kind(bytes.len(), byte)));
+        return Err(DecodeError::Kind(bytes.len(), byte));
     }
     Ok((byte, rest))
 }
 
 /// The command at the front of the bytes, and the bytes after it.
 #[tactic(auto, unfolding(crate::specs::Reading::command_at, rq_values::specs::Reading::list_at))]
-fn next_command(alloc: Global, limit: u32, bytes: &[u8]) -> Result<(Seq<Item>, &[u8]), ReadError>
+fn next_command(alloc: Global, limit: u32, bytes: &[u8]) -> Result<(Seq<Item>, &[u8]), DecodeError>
     ensures { (item_of : List ℕ → Item) → IsPreparing item_of → Gives (λ x. (x.0, x.1.now)) result (command_at item_of limit bytes.now) }
 {
     let (_kind, rest) = next_byte(1, bytes)?;
@@ -104,16 +101,18 @@ fn next_command(alloc: Global, limit: u32, bytes: &[u8]) -> Result<(Seq<Item>, &
 }
 
 /// The items of the command that is the whole input.
-fn decode_whole(alloc: Global, limit: u32, bytes: &[u8]) -> Result<Seq<Item>, CommandError>
+#[tactic(auto, using(rq_values::proofs::Faults::whole_fault))]
+fn decode_whole(alloc: Global, limit: u32, bytes: &[u8]) -> Result<Seq<Item>, DecodeError>
     ensures { (item_of : List ℕ → Item) → IsPreparing item_of → IsAnswer result (answer_by item_of limit bytes.now) }
 {
     match next_command(alloc, limit, bytes) {
-        Err(error) => Err(command_error(bytes.len(), error)),
+        Err(error) => Err(error.placed(bytes.len())),
         Ok((items, rest)) => {
             if rest.is_empty() {
                 Ok(items)
             } else {
-                Err(CommandError::Trailing(bytes.len().saturating_sub(rest.len())))
+                drop(items);
+                Err(DecodeError::Trailing(bytes.len().saturating_sub(rest.len())))
             }
         }
     }
@@ -121,11 +120,11 @@ fn decode_whole(alloc: Global, limit: u32, bytes: &[u8]) -> Result<Seq<Item>, Co
 
 /// The items of the command Execute that is the whole input. Each text of a statement must be the canonical text of one that runs.
 #[tactic(auto, using(crate::proofs::Told::told))]
-pub fn decode_execute(alloc: Global, bytes: &[u8]) -> Result<Seq<Item>, CommandError>
-    ensures answer { Reads TEXT_LIMIT bytes.now result }
-    ensures ok { IfOk result (λ items. (bytes.now ≡ execute_bytes items) × IsCommand TEXT_LIMIT items) }
-    ensures complete { (items : List Item) → bytes.now ≡ execute_bytes items → IsCommand TEXT_LIMIT items → (result ≡ Ok items) ⊎ (result ≡ Err errors.NoMemory) }
+pub fn decode_execute(alloc: Global, bytes: &[u8]) -> Result<Seq<Item>, DecodeError>
+    ensures answer { Reads MAX_COMMAND bytes.now result }
+    ensures ok { IfOk result (λ items. (bytes.now ≡ execute_bytes items) × IsCommand MAX_COMMAND items) }
+    ensures complete { (items : List Item) → bytes.now ≡ execute_bytes items → IsCommand MAX_COMMAND items → (result ≡ Ok items) ⊎ (result ≡ Err errors.NoMemory) }
 {
     each_text_is_prepared();
-    decode_whole(alloc, TEXT_LIMIT, bytes)
+    decode_whole(alloc, MAX_COMMAND, bytes)
 }

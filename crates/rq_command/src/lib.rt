@@ -2,9 +2,7 @@
 #![tactic(auto)]
 
 mod decoding;
-mod error;
 mod laws;
 
-pub use decoding::{TEXT_LIMIT, decode_execute};
-pub use error::CommandError;
+pub use decoding::decode_execute;
 pub use laws::each_command_has_one_answer;

@@ -10,7 +10,7 @@ use Rattle.rq_wire.specs.Spelling.{entry_bytes, body_bytes}
 use Rattle.rq_wire.specs.Exact.{IsBody}
 use Rattle.rq_wire.specs.declared.entry.Entry.{Entry}
 use Rattle.rq_wal.specs.declared.base.Stored.{Stored}
-use Rattle.rq_wal.specs.declared.frame.Frame.TheVariants as frame
+use Rattle.rq_wire.specs.declared.frame.Frame.TheVariants as frame
 use Rattle.rq_wal.specs.Reading.{text_limit, is_small}
 use Rattle.rq_wal.specs.Rules.{AreAllowed}
 use Rattle.rq_wal.specs.Spelling.{payload_bytes}

@@ -11,7 +11,7 @@ use Rattle.rq_wal.specs.Gate.{IsAtRest}
 use Rattle.rq_wal.specs.WalFile.{wal_file, wal_end}
 use Rattle.rq_wal.specs.declared.base.Stored.{Stored}
 use Rattle.rq_wal.specs.declared.file.WalFile.{WalFile}
-use Rattle.rq_wal.specs.declared.frame.Frame.{Frame}
+use Rattle.rq_wire.specs.declared.frame.Frame.{Frame}
 use Rattle.rq_wal.specs.Calls.{PassesMost}
 use Rattle.rq_wal.specs.Current.{IsCurrent, IsSome, OnlyRoom, EachImage, EachImageGives, EachSinceGives, EachSinceGivesSome}
 use Rattle.rq_wal.specs.Later.{Later, DeviceRose}

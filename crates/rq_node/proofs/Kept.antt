@@ -5,8 +5,8 @@ use Rattle.std.proofs.Math.Seq.{take-length}
 use Rattle.rq_wal.specs.declared.base.Base.{Base}
 use Rattle.rq_wal.specs.declared.base.Stored.{Stored}
 use Rattle.rq_wal.specs.declared.error.OpenError.{OpenError}
-use Rattle.rq_wal.specs.declared.frame.Frame.{Frame}
-use Rattle.rq_wal.specs.declared.frame.Frame.TheVariants as shapes
+use Rattle.rq_wire.specs.declared.frame.Frame.{Frame}
+use Rattle.rq_wire.specs.declared.frame.Frame.TheVariants as shapes
 use Rattle.rq_wal.specs.Stored.{applied, applied_all, started, stored_after}
 use Rattle.rq_wal.specs.Current.{IsSome}
 use Rattle.rq_engine.specs.declared.item.Item.{Item}

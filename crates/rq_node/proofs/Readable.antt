@@ -6,8 +6,8 @@ use Rattle.std.proofs.lemmas.List.Elements.{All-append, All-take}
 use Rattle.std.proofs.lemmas.List.{map-append, length-map, take_all}
 use Rattle.rq_values.specs.Exact.{AreProper}
 use Rattle.rq_wire.specs.declared.entry.Entry.{Entry}
-use Rattle.rq_command.specs.declared.error.CommandError.{CommandError}
-use Rattle.rq_command.specs.declared.error.CommandError.TheVariants as commands
+use Rattle.rq_values.specs.declared.error.DecodeError.{DecodeError}
+use Rattle.rq_values.specs.declared.error.DecodeError.TheVariants as commands
 use Rattle.rq_node.specs.Files.{stored_entry}
 use Rattle.rq_values.specs.Spelling.{u32_bytes}
 use Rattle.rq_engine.specs.declared.item.Item.{Item}
@@ -161,10 +161,10 @@ pub whole_spelled : (entries : List Entry) (place : ℕ) (found : List LogEntry)
 whole_spelled entries place found at spelled = sym (take_all place entries (omega arith)) ∙ spelled
 
 -- what was read of a command
-pub the_items : (r : Result (List Item) CommandError) (found items : List Item) → r ≡ Ok found → (r ≡ Ok items) ⊎ (r ≡ Err commands.NoMemory) → found ≡ items
+pub the_items : (r : Result (List Item) DecodeError) (found items : List Item) → r ≡ Ok found → (r ≡ Ok items) ⊎ (r ≡ Err commands.NoMemory) → found ≡ items
 the_items r found items is (inl same) = cc
 the_items r found items is (inr none) = absurd (cc)
 
-pub the_error : (r : Result (List Item) CommandError) (e : CommandError) (items : List Item) → r ≡ Err e → (r ≡ Ok items) ⊎ (r ≡ Err commands.NoMemory) → e ≡ commands.NoMemory
+pub the_error : (r : Result (List Item) DecodeError) (e : DecodeError) (items : List Item) → r ≡ Err e → (r ≡ Ok items) ⊎ (r ≡ Err commands.NoMemory) → e ≡ commands.NoMemory
 the_error r e items is (inl same) = absurd (cc)
 the_error r e items is (inr none) = cc

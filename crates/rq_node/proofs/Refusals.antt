@@ -3,8 +3,8 @@ use Rattle.std.proofs.Common.{◌≡◌, ◌≢◌, ◌<◌, ◌≤◌, ◌+◌,
 use Rattle.std.proofs.lemmas.List.{length-map, length-take}
 use Rattle.rq_wire.specs.declared.entry.Entry.{Entry}
 use Rattle.rq_engine.specs.declared.item.Item.{Item}
-use Rattle.rq_command.specs.declared.error.CommandError.{CommandError}
-use Rattle.rq_command.specs.declared.error.CommandError.TheVariants as commands
+use Rattle.rq_values.specs.declared.error.DecodeError.{DecodeError}
+use Rattle.rq_values.specs.declared.error.DecodeError.TheVariants as commands
 use Rattle.rq_command.specs.Whole.{Decodes, Reads}
 use Rattle.rq_node.specs.declared.error.NodeError.{NodeError}
 use Rattle.rq_node.specs.declared.error.NodeError.TheVariants as errors
@@ -14,22 +14,24 @@ use Rattle.rq_node.specs.Opened.{IsNoCommand, IsNoEntry, IsNoLog}
 use Rattle.rq_node.specs.Sound.{AreReadable, most_bytes}
 
 -- an error that isn't want of memory is what the bytes say
-decoded : (limit : ℕ) (bytes : List ℕ) (e : CommandError) → Reads limit bytes (Err e) → e ≢ commands.NoMemory → Decodes limit bytes (Err e)
+decoded : (limit : ℕ) (bytes : List ℕ) (e : DecodeError) → Reads limit bytes (Err e) → e ≢ commands.NoMemory → Decodes limit bytes (Err e)
 decoded limit bytes (commands.Short place) reads other = reads
 decoded limit bytes (commands.Kind place byte) reads other = reads
 decoded limit bytes (commands.Long place len) reads other = reads
 decoded limit bytes (commands.NotText place) reads other = reads
+decoded limit bytes (commands.Order place) reads other = reads
+decoded limit bytes (commands.Rule place) reads other = reads
 decoded limit bytes (commands.Text place) reads other = reads
 decoded limit bytes (commands.Trailing place) reads other = reads
 decoded limit bytes commands.NoMemory reads other = absurd (other refl)
 
-pub no_command : (bytes : List ℕ) (index : ℕ) (r : Result (List Item) CommandError) (error : CommandError) (e : NodeError)
+pub no_command : (bytes : List ℕ) (index : ℕ) (r : Result (List Item) DecodeError) (error : DecodeError) (e : NodeError)
     → Reads most_bytes bytes r → r ≡ Err error
     → ((error ≡ commands.NoMemory) × (e ≡ errors.NoMemory)) ⊎ ((error ≢ commands.NoMemory) × (e ≡ errors.Command index error))
-    → (e ≡ errors.NoMemory) ⊎ ((error : CommandError) × (e ≡ errors.Command index error) × IsNoCommand bytes error)
+    → (e ≡ errors.NoMemory) ⊎ ((error : DecodeError) × (e ≡ errors.Command index error) × IsNoCommand bytes error)
 no_command bytes index r error e reads is (inl none) = inl none.1
 no_command bytes index r error e reads is (inr other) =
-    inr (error, other.1, inr (decoded most_bytes bytes error (subst (λ (x : Result (List Item) CommandError). Reads most_bytes bytes x) is reads) other.0))
+    inr (error, other.1, inr (decoded most_bytes bytes error (subst (λ (x : Result (List Item) DecodeError). Reads most_bytes bytes x) is reads) other.0))
 
 parted : (entries : List Entry) (place : ℕ) (found : Entry) → place < length entries → found ≡ get_or entries place found → entries ≡ take place entries ++ found ∷ drop (place + 1) entries
 parted [] place found less is = absurd (omega arith)

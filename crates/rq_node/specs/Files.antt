@@ -7,8 +7,8 @@ use Rattle.rq_wire.specs.declared.entry.Body.{Body}
 use Rattle.rq_wire.specs.declared.entry.Body.TheVariants as body
 use Rattle.rq_wal.specs.declared.base.Base.{Base}
 use Rattle.rq_wal.specs.declared.base.Stored.{Stored}
-use Rattle.rq_wal.specs.declared.frame.Frame.{Frame}
-use Rattle.rq_wal.specs.declared.frame.Frame.TheVariants as frame
+use Rattle.rq_wire.specs.declared.frame.Frame.{Frame}
+use Rattle.rq_wire.specs.declared.frame.Frame.TheVariants as frame
 use Rattle.rq_engine.specs.Command.{execute_bytes}
 use Rattle.rq_node.specs.declared.log_entry.LogEntry.{LogEntry}
 use Rattle.rq_node.specs.declared.log_entry.Content.{Content}

@@ -6,8 +6,8 @@ use Rattle.rq_wire.specs.declared.entry.Body.TheVariants as body
 use Rattle.rq_wal.specs.declared.base.Stored.{Stored}
 use Rattle.rq_wal.specs.declared.error.OpenError.{OpenError}
 use Rattle.rq_wal.specs.declared.error.OpenError.TheVariants as opening
-use Rattle.rq_command.specs.declared.error.CommandError.{CommandError}
-use Rattle.rq_command.specs.declared.error.CommandError.TheVariants as commands
+use Rattle.rq_values.specs.declared.error.DecodeError.{DecodeError}
+use Rattle.rq_values.specs.declared.error.DecodeError.TheVariants as commands
 use Rattle.rq_command.specs.Whole.{Decodes}
 use Rattle.rq_node.specs.declared.error.NodeError.{NodeError}
 use Rattle.rq_node.specs.declared.error.NodeError.TheVariants as errors
@@ -29,7 +29,7 @@ refusal_of (opening.Version version) = errors.Version version
 refusal_of opening.NoMemory = errors.NoMemory
 
 -- these bytes are no command of an entry: too long, or read as this error
-abbrev pub IsNoCommand : List ℕ → CommandError → Type 0
+abbrev pub IsNoCommand : List ℕ → DecodeError → Type 0
 IsNoCommand bytes error =
     ((most_bytes < length bytes) × (error ≡ commands.Long 0 (min (2 ^ 32 - 1) (length bytes)))) ⊎ Decodes most_bytes bytes (Err error)
 
@@ -37,7 +37,7 @@ IsNoCommand bytes error =
 abbrev pub IsNoEntry : ℕ → Body → NodeError → Type 0
 IsNoEntry index body.NoOp e = ⊥
 IsNoEntry index (body.Config config) e = e ≡ errors.Config index
-IsNoEntry index (body.Data bytes) e = (error : CommandError) × (e ≡ errors.Command index error) × IsNoCommand bytes error
+IsNoEntry index (body.Data bytes) e = (error : DecodeError) × (e ≡ errors.Command index error) × IsNoCommand bytes error
 
 -- the first entry that is none of a node's log, behind those that are, and why
 pub record IsNoLog (entries : List Entry) (e : NodeError) : Type 0 where

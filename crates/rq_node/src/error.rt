@@ -2,8 +2,7 @@
 ghost use Rattle.std.specs.Prelude.{◌≡◌};
 ghost use Rattle.rq_node.specs.declared.error.NodeError.TheVariants as errors;
 
-use rq_command::CommandError;
-use rq_values::NoMemory;
+use rq_values::{DecodeError, NoMemory};
 use std::alloc::{AllocError, AllocFailed};
 
 /// Why a node doesn't start.
@@ -23,7 +22,7 @@ pub enum NodeError {
     /// What the entry at an index holds is no command.
     Command {
         index: u64,
-        error: CommandError,
+        error: DecodeError,
     },
     /// The entry at an index is a configuration, which isn't built.
     Config {

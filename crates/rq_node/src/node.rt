@@ -1,7 +1,7 @@
 //! A running node with its log files: docs/RAFT.md.
 ghost use Rattle.std.specs.Prelude.{◌≡◌, ◌⊎◌, ◌<◌, ◌+◌, ◌++◌, ◌∷◌, ◌*◌, ◌^◌, [], List, ℕ, length, map, IsTrue, OnOk, IfOk, IsErrOf, is_some, true};
 ghost use Rattle.rq_outside.specs.Pair.{arm_of, UsedCalls, PairRose};
-ghost use Rattle.rq_wal.specs.declared.frame.Frame.TheVariants.{Splice};
+ghost use Rattle.rq_wire.specs.declared.frame.Frame.TheVariants.{Splice};
 ghost use Rattle.rq_outside.specs.declared.pair.Arm.TheVariants.{Struck};
 ghost use Rattle.rq_wal.specs.Calls.{PassesMost};
 ghost use Rattle.rq_wal.specs.Later.{Later, DeviceRose};

@@ -1,4 +1,5 @@
-use rq_command::{CommandError, decode_execute};
+use rq_command::decode_execute;
+use rq_values::DecodeError;
 use rq_engine::encode_execute;
 use std::alloc::Global;
 use std::test::Fail;
@@ -13,7 +14,7 @@ const TWO: &[u8] = b"\x01\0\x02\0\0\0\0\x13\0\0\0SELECT * FROM \"foo\"\x01\x09\0
 /// The bytes behind the command.
 const TRAILING: &[u8] = b"\x01\0\x01\0\0\0\x01\x01\0\0\0x\0";
 
-fn refusal(alloc: Global, bytes: &[u8]) -> Option<CommandError> {
+fn refusal(alloc: Global, bytes: &[u8]) -> Option<DecodeError> {
     decode_execute(alloc, bytes).err()
 }
 
@@ -37,34 +38,34 @@ fn commands_and_refusals(rt: HostRuntime) -> Result<(), Fail> {
     for len in 0..56 {
         assert_eq!(rt;
             refusal(alloc, &COMMAND[..len]),
-            Some(CommandError::Short(len))
+            Some(DecodeError::Short(len))
         );
     }
     for (bytes, error) in [
-        (b"\x02\0\0\0\0\0".as_slice(), CommandError::Kind(0, 2)),
-        (b"\x01\x01\0\0\0\0".as_slice(), CommandError::Kind(1, 1)),
-        (b"\x01\0\x01\0\0\0\x02".as_slice(), CommandError::Kind(6, 2)),
+        (b"\x02\0\0\0\0\0".as_slice(), DecodeError::Kind(0, 2)),
+        (b"\x01\x01\0\0\0\0".as_slice(), DecodeError::Kind(1, 1)),
+        (b"\x01\0\x01\0\0\0\x02".as_slice(), DecodeError::Kind(6, 2)),
         (
             b"\x01\0\x01\0\0\0\0\x01\0\x80\0".as_slice(),
-            CommandError::Long(7, 8_388_609),
+            DecodeError::Long(7, 8_388_609),
         ),
         (
             b"\x01\0\x01\0\0\0\0\x01\0\0\0\xff".as_slice(),
-            CommandError::NotText(7),
+            DecodeError::NotText(7),
         ),
         (
             b"\x01\0\x01\0\0\0\x01\x01\0\0\0\0".as_slice(),
-            CommandError::NotText(7),
+            DecodeError::NotText(7),
         ),
         (
             b"\x01\0\x01\0\0\0\0\x11\0\0\0SELECT * FROM foo\0".as_slice(),
-            CommandError::Text(7),
+            DecodeError::Text(7),
         ),
         (
             b"\x01\0\x01\0\0\0\0\x10\0\0\0DROP TABLE \"foo\"".as_slice(),
-            CommandError::Text(7),
+            DecodeError::Text(7),
         ),
-        (TRAILING, CommandError::Trailing(12)),
+        (TRAILING, DecodeError::Trailing(12)),
     ] {
         assert_eq!(rt; refusal(alloc, bytes), Some(error));
     }

@@ -2,38 +2,40 @@
 use Rattle.std.proofs.Common.{true, ◌≡◌, ℕ, zero, suc, ◌+◌, ◌≤◌, ◌<◌, ◌^◌, ◌==◌, List, [], ◌∷◌, ◌++◌, length, Option, None, Result, Ok, Err, cond, refl, sym, ap, subst, ◌∙◌, arith, append_assoc, length-append}
 use Rattle.std.proofs.lemmas.Bool.Decides.{nat_tests}
 use Rattle.std.specs.List.{flat_map}
-use Rattle.rq_values.specs.declared.error.Wrong.{Wrong}
-use Rattle.rq_values.specs.declared.error.Wrong.TheVariants.{Kind, Rule}
+use Rattle.rq_values.specs.declared.error.DecodeError.{DecodeError}
+use Rattle.rq_values.specs.declared.error.DecodeError.TheVariants.{Kind, Rule}
 use Rattle.rq_values.specs.Text.{is_id}
 use Rattle.rq_values.specs.Spelling.{u32_bytes, u64_bytes, sized, option_bytes, list_bytes}
 use Rattle.rq_values.specs.Reading.{◌>>=◌, made, checked, u8_at, u32_at, u64_at, id_at, option_at, many_at, sized_at}
-use Rattle.rq_values.specs.Local.{bind_ok, guard_ok, eq_true, is_eq}
-use Rattle.rq_values.specs.Exact.{IsExact, IsNamed, IsNoneOr, AreProper, exact_bind, exact_made, exact_checked, exact_same, exact_u8, exact_u32, exact_u64, exact_id, exact_option, exact_many}
+use Rattle.rq_values.proofs.Local.{bind_ok, guard_ok, eq_true, is_eq}
+use Rattle.rq_values.specs.Exact.{IsExact, IsNamed, IsNoneOr, AreProper}
+use Rattle.rq_values.proofs.Exact.{exact_bind, exact_made, exact_checked, exact_same, exact_u8, exact_u32, exact_u64, exact_id, exact_option, exact_many}
 use Rattle.rq_wire.specs.declared.entry.Entry.{Entry}
 use Rattle.rq_wire.specs.Spelling.{entry_bytes}
 use Rattle.rq_wire.specs.Reading.{entry_at}
-use Rattle.rq_wire.specs.Exact.{IsEntry, exact_entry}
+use Rattle.rq_wire.specs.Exact.{IsEntry}
+use Rattle.rq_wire.proofs.Exact.{exact_entry}
 use Rattle.rq_wal.specs.declared.base.Stored.{Stored}
-use Rattle.rq_wal.specs.declared.frame.Frame.{Frame}
-use Rattle.rq_wal.specs.declared.frame.Frame.TheVariants.{Vote, Splice, Boot}
+use Rattle.rq_wire.specs.declared.frame.Frame.{Frame}
+use Rattle.rq_wire.specs.declared.frame.Frame.TheVariants.{Vote, Splice, Boot}
 use Rattle.rq_wal.specs.Spelling.{kind_of, payload_bytes, frame_bytes}
 use Rattle.rq_wal.specs.Reading.{text_limit, breaks, is_small, is_next, is_some, is_kind, some_entries_at, vote_at, splice_at, boot_at, payload_at, frame_at}
 use Rattle.rq_wal.specs.Rules.{IsAllowed}
 
 -- a length, and what fills it
-pub exact_sized : {A : Type 0} (size : List ℕ → Result (ℕ × List ℕ) Wrong) (number : ℕ → List ℕ) (Fits : ℕ → Type 0) (one : List ℕ → Result (A × List ℕ) Wrong) (s : A → List ℕ) (P : A → Type 0) → IsExact size number Fits → IsExact one s P
+pub exact_sized : {A : Type 0} (size : List ℕ → Result (ℕ × List ℕ) DecodeError) (number : ℕ → List ℕ) (Fits : ℕ → Type 0) (one : List ℕ → Result (A × List ℕ) DecodeError) (s : A → List ℕ) (P : A → Type 0) → IsExact size number Fits → IsExact one s P
     → IsExact (sized_at size one) (λ a. number (length (s a)) ++ s a) (λ a. P a × Fits (length (s a)))
 unfolding sized_at
 exact_sized {A} size number Fits one s P sizes exact = record {
   reads = λ a rest proper.
       let all = (number (length (s a)) ++ s a) ++ rest in
       let check : (length (s a ++ rest) == length (s a) + length rest) ≡ true = is_eq (length (s a ++ rest)) (length (s a) + length rest) (length-append (s a) rest) in
-      ap (λ r. r >>= λ n. one n.1 >>= λ x. cond {A = Result (A × List ℕ) Wrong} (length n.1 == n.0 + length x.1) (Ok x) (Err (Rule (length all)))) (ap size (append_assoc (number (length (s a))) (s a) rest) ∙ sizes.reads (length (s a)) (s a ++ rest) proper.1)
-      ∙ ap (λ r. r >>= λ x. cond {A = Result (A × List ℕ) Wrong} (length (s a ++ rest) == length (s a) + length x.1) (Ok x) (Err (Rule (length all)))) (exact.reads a rest proper.0)
-      ∙ ap (λ b. cond {A = Result (A × List ℕ) Wrong} b (Ok (a, rest)) (Err (Rule (length all)))) check;
+      ap (λ r. r >>= λ n. one n.1 >>= λ x. cond {A = Result (A × List ℕ) DecodeError} (length n.1 == n.0 + length x.1) (Ok x) (Err (Rule (length all)))) (ap size (append_assoc (number (length (s a))) (s a) rest) ∙ sizes.reads (length (s a)) (s a ++ rest) proper.1)
+      ∙ ap (λ r. r >>= λ x. cond {A = Result (A × List ℕ) DecodeError} (length (s a ++ rest) == length (s a) + length x.1) (Ok x) (Err (Rule (length all)))) (exact.reads a rest proper.0)
+      ∙ ap (λ b. cond {A = Result (A × List ℕ) DecodeError} b (Ok (a, rest)) (Err (Rule (length all)))) check;
   stood = λ bytes a rest all h.
-      let len = bind_ok (size bytes) (λ n. one n.1 >>= λ x. cond {A = Result (A × List ℕ) Wrong} (length n.1 == n.0 + length x.1) (Ok x) (Err (Rule (length bytes)))) (a, rest) h in
-      let thing = bind_ok (one len.0.1) (λ x. cond {A = Result (A × List ℕ) Wrong} (length len.0.1 == len.0.0 + length x.1) (Ok x) (Err (Rule (length bytes)))) (a, rest) len.2 in
+      let len = bind_ok (size bytes) (λ n. one n.1 >>= λ x. cond {A = Result (A × List ℕ) DecodeError} (length n.1 == n.0 + length x.1) (Ok x) (Err (Rule (length bytes)))) (a, rest) h in
+      let thing = bind_ok (one len.0.1) (λ x. cond {A = Result (A × List ℕ) DecodeError} (length len.0.1 == len.0.0 + length x.1) (Ok x) (Err (Rule (length bytes)))) (a, rest) len.2 in
       let passed = guard_ok (length len.0.1 == len.0.0 + length thing.0.1) thing.0 (a, rest) (Rule (length bytes)) thing.2 in
       let front = sizes.stood bytes len.0.0 len.0.1 all len.1 in
       let back = exact.stood len.0.1 a rest front.behind (thing.1 ∙ ap Ok passed.1) in

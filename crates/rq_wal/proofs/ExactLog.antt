@@ -5,11 +5,12 @@ use Rattle.std.proofs.lemmas.Bool.Decides.{nat_tests}
 use Rattle.std.specs.List.{flat_map}
 use Rattle.rq_values.specs.Spelling.{u64_bytes}
 use Rattle.rq_values.specs.Reading.{◌>>=◌, u64_at}
-use Rattle.rq_values.specs.Local.{bind_ok, ok_is}
-use Rattle.rq_values.specs.Exact.{AreBytes, IsExact, Stood, exact_u64}
+use Rattle.rq_values.proofs.Local.{bind_ok, ok_is}
+use Rattle.rq_values.specs.Exact.{AreBytes, IsExact, Stood}
+use Rattle.rq_values.proofs.Exact.{exact_u64}
 use Rattle.rq_wal.specs.declared.base.Base.{Base}
 use Rattle.rq_wal.specs.declared.base.Stored.{Stored}
-use Rattle.rq_wal.specs.declared.frame.Frame.{Frame}
+use Rattle.rq_wire.specs.declared.frame.Frame.{Frame}
 use Rattle.rq_wal.specs.Spelling.{base_bytes, frame_bytes, gated}
 use Rattle.rq_wal.specs.Stored.{started, applied, applied_all, stored_after}
 use Rattle.rq_wal.specs.Reading.{frame_at, frames_at, spelled_at, base_at, log_at}

@@ -4,16 +4,17 @@ use Rattle.std.proofs.lemmas.Bool.Decides.{nat_tests}
 use Rattle.std.proofs.lemmas.List.{take_at, drop_at}
 use Rattle.std.specs.Int.{w64, from_le_bytes}
 use Rattle.std.specs.List.{flat_map}
-use Rattle.rq_values.specs.declared.error.Wrong.{Wrong}
-use Rattle.rq_values.specs.declared.error.Wrong.TheVariants.{Short}
+use Rattle.rq_values.specs.declared.error.DecodeError.{DecodeError}
+use Rattle.rq_values.specs.declared.error.DecodeError.TheVariants.{Short}
 use Rattle.rq_values.specs.Reading.{◌>>=◌, front_at, u64_at}
-use Rattle.rq_values.specs.Local.{not_below}
+use Rattle.rq_values.proofs.Local.{not_below}
 use Rattle.rq_values.specs.Spelling.{u64_bytes}
-use Rattle.rq_values.specs.Exact.{AreBytes, AreBytes-drop, exact_u64}
+use Rattle.rq_values.specs.Exact.{AreBytes}
+use Rattle.rq_values.proofs.Exact.{AreBytes-drop, exact_u64}
 use Rattle.rq_wal.specs.declared.base.Base.{Base}
 use Rattle.rq_wal.specs.declared.base.Stored.{Stored}
 use Rattle.rq_wal.specs.declared.error.OpenError.{OpenError}
-use Rattle.rq_wal.specs.declared.frame.Frame.{Frame}
+use Rattle.rq_wire.specs.declared.frame.Frame.{Frame}
 use Rattle.rq_wal.specs.declared.file.WalFile.{WalFile}
 use Rattle.rq_wal.specs.Current.{IsRead}
 use Rattle.rq_wal.specs.Log.{IsLog, HasLog, ReadsWritten, ReadsNothingElse}
@@ -61,7 +62,7 @@ written first generation number gate stored done rest log ne =
     let behind : drop 15 file ≡ tail_of first log.frames gate rest = drop_at (u64_bytes generation) (tail_of first log.frames gate rest) 8 (long_number generation) in
     ap (file_gives first number) is
     ∙ ap (λ (fault : Option OpenError). unless_ fault (stored_of number file (log_at first (drop 15 file)))) (header_right number generation (tail_of first log.frames gate rest) log.small)
-    ∙ ap (λ (r : Result (Stored × List ℕ) Wrong). stored_of number file r) (ap (log_at first) behind ∙ log_again first log.frames gate rest log.fits log.allowed ne)
+    ∙ ap (λ (r : Result (Stored × List ℕ) DecodeError). stored_of number file r) (ap (log_at first) behind ∙ log_again first log.frames gate rest log.fits log.allowed ne)
     ∙ ap Ok log.folds
 
 -- ---- and nothing else
@@ -70,7 +71,7 @@ unless_ok : (fault : Option OpenError) (r : Result Stored OpenError) (stored : S
 unless_ok None r stored h = (refl, h)
 unless_ok (Some fault) r stored h = absurd (cc)
 
-stored_ok : (number : ℕ) (file : List ℕ) (r : Result (Stored × List ℕ) Wrong) (stored : Stored) → stored_of number file r ≡ Ok stored → (rest : List ℕ) × (r ≡ Ok (stored, rest))
+stored_ok : (number : ℕ) (file : List ℕ) (r : Result (Stored × List ℕ) DecodeError) (stored : Stored) → stored_of number file r ≡ Ok stored → (rest : List ℕ) × (r ≡ Ok (stored, rest))
 stored_ok number file (Ok read) stored h = let same : read.0 ≡ stored = cc in (read.1, ap (λ (s : Stored). Ok (s, read.1)) same)
 stored_ok number file (Err wrong) stored h = absurd (cc)
 
@@ -90,7 +91,7 @@ below n h = grind (arith, nat_tests)
 
 u64_is : (l : List ℕ) → 8 ≤ length l → u64_at l ≡ Ok (from_le_bytes w64 (take 8 l), drop 8 l)
 unfolding u64_at front_at
-u64_is l le = ap (λ (b : Bool). cond {A = Result (List ℕ × List ℕ) Wrong} b (Err Short) (Ok (take 8 l, drop 8 l)) >>= λ x. Ok (from_le_bytes w64 x.0, x.1)) (not_below (length l) 8 le)
+u64_is l le = ap (λ (b : Bool). cond {A = Result (List ℕ × List ℕ) DecodeError} b (Err (Short 0)) (Ok (take 8 l, drop 8 l)) >>= λ x. Ok (from_le_bytes w64 x.0, x.1)) (not_below (length l) 8 le)
 
 -- the number in a header
 abbrev pub number_at : List ℕ → ℕ

@@ -3,7 +3,7 @@ use Rattle.std.proofs.Common.{All, slice_index_or, ◌≡◌, ◌≤◌, ℕ, �
 use Rattle.std.proofs.lemmas.List.{take_at, append-nil, take-map, length-map}
 use Rattle.std.proofs.lemmas.List.Elements.{All-map}
 use Rattle.std.specs.List.{flat_map}
-use Rattle.rq_wal.specs.declared.frame.Frame.{Frame}
+use Rattle.rq_wire.specs.declared.frame.Frame.{Frame}
 use Rattle.rq_wal.specs.Gate.{EndsIn, HasSomeOf, IsPiece, frame_of, with_frame}
 use Rattle.rq_wal.specs.Pieces.{with_frames, HasSomePieces}
 use Rattle.rq_wal.specs.Spelling.{frame_bytes, piece_of, gated}

@@ -1,13 +1,14 @@
 -- A frame is read from the front of the bytes.
 use Rattle.std.proofs.Common.{ℕ, ◌≡◌, ◌≤◌, ◌==◌, List, length, Ok, cond, ap, arith, length-append}
-use Rattle.rq_values.specs.declared.error.Wrong.TheVariants.{Kind}
+use Rattle.rq_values.specs.declared.error.DecodeError.TheVariants.{Kind}
 use Rattle.rq_values.specs.Reading.{made, checked, u8_at, u32_at, u64_at, id_at, option_at, many_at, sized_at}
-use Rattle.rq_values.specs.Local.{IsLocal, local_bind, local_made, local_checked, local_choice, local_u8, local_u32, local_u64, local_id, local_option, local_many, local_sized}
+use Rattle.rq_values.specs.Local.{IsLocal}
+use Rattle.rq_values.proofs.Local.{local_bind, local_made, local_checked, local_choice, local_u8, local_u32, local_u64, local_id, local_option, local_many, local_sized}
 use Rattle.rq_wire.specs.Reading.{entry_at}
-use Rattle.rq_wire.specs.Local.{local_entry}
+use Rattle.rq_wire.proofs.Local.{local_entry}
 use Rattle.rq_wal.specs.declared.base.Stored.{Stored}
-use Rattle.rq_wal.specs.declared.frame.Frame.{Frame}
-use Rattle.rq_wal.specs.declared.frame.Frame.TheVariants.{Vote, Splice, Boot}
+use Rattle.rq_wire.specs.declared.frame.Frame.{Frame}
+use Rattle.rq_wire.specs.declared.frame.Frame.TheVariants.{Vote, Splice, Boot}
 use Rattle.rq_wal.specs.Reading.{text_limit, breaks, is_small, is_next, is_some, is_kind, some_entries_at, vote_at, splice_at, boot_at, payload_at, frame_at}
 
 local_entries : IsLocal some_entries_at

@@ -10,7 +10,7 @@ use Rattle.rq_outside.specs.Pair.{other, disk_at}
 use Rattle.rq_wal.specs.declared.base.Base.{Base}
 use Rattle.rq_wal.specs.declared.base.Stored.{Stored}
 use Rattle.rq_wal.specs.declared.file.WalFile.{WalFile}
-use Rattle.rq_wal.specs.declared.frame.Frame.{Frame}
+use Rattle.rq_wire.specs.declared.frame.Frame.{Frame}
 use Rattle.rq_wal.specs.Current.{IsBehind, IsCurrent, EachSinceGivesSome, file_at}
 use Rattle.rq_wal.specs.Gate.{IsAtRest, HasSomeOf}
 use Rattle.rq_wal.specs.Log.{IsLog}

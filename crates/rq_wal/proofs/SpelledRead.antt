@@ -1,13 +1,13 @@
 -- Reading given bytes one after the other, as a loop does.
 use Rattle.std.proofs.Common.{◌≡◌, ◌≢◌, ℕ, ◌+◌, ◌<◌, ◌≤◌, List, [], ◌∷◌, length, drop, get_or, Ok, Err, refl, sym, ap, ◌∙◌, arith}
+use Rattle.std.proofs.lemmas.Bool.{OnFalse_at, OnFalse_from}
 use Rattle.std.proofs.lemmas.Bool.Decides.{nat_tests}
 use Rattle.std.proofs.lemmas.List.{drop_more, drop_all}
-use Rattle.rq_values.specs.declared.error.ReadError.{ReadError}
-use Rattle.rq_values.specs.declared.error.ReadError.TheVariants as errors
-use Rattle.rq_values.specs.declared.error.Wrong.{Wrong}
-use Rattle.rq_values.specs.declared.error.Wrong.TheVariants.{Short, Rule}
+use Rattle.rq_values.specs.declared.error.DecodeError.{DecodeError}
+use Rattle.rq_values.specs.declared.error.DecodeError.TheVariants.{Short, Rule}
+use Rattle.rq_values.specs.Fault.{is_want_of_memory}
 use Rattle.rq_values.specs.Reading.{Fails, u8_at}
-use Rattle.rq_values.specs.Local.{ok_is}
+use Rattle.rq_values.proofs.Local.{ok_is}
 use Rattle.rq_wal.specs.declared.base.Base.{Base}
 use Rattle.rq_wal.specs.Reading.{spelled_at}
 
@@ -19,7 +19,7 @@ other_byte : (thing : Base) (text : List ℕ) (byte found : ℕ) (rest : List �
 unfolding spelled_at
 other_byte thing text byte found rest ne = grind (arith, nat_tests)
 
-no_byte : (thing : Base) (byte : ℕ) (text : List ℕ) → spelled_at thing (byte ∷ text) [] ≡ Err Short
+no_byte : (thing : Base) (byte : ℕ) (text : List ℕ) → spelled_at thing (byte ∷ text) [] ≡ Err (Short 0)
 unfolding spelled_at
 no_byte thing byte text = refl
 
@@ -40,16 +40,15 @@ module _ (thing : Base) (text : List ℕ) (at : ℕ) (lt : at < length text) whe
   next : drop at text ≡ byte ∷ drop (at + 1) text
   next = drop_more text at 0 lt
 
-  cut_off : (wrong : Wrong) (rest : List ℕ) → u8_at rest ≡ Err wrong → spelled_at thing (drop at text) rest ≡ Err wrong
+  cut_off : (wrong : DecodeError) (rest : List ℕ) → u8_at rest ≡ Err wrong → spelled_at thing (drop at text) rest ≡ Err wrong
   unfolding u8_at
   cut_off wrong [] h =
-      let short : Short ≡ wrong = cc in
-      ap (λ (l : List ℕ). spelled_at thing l []) next ∙ no_byte thing byte (drop (at + 1) text) ∙ ap (λ (w : Wrong). Err w) short
+      let short : Short 0 ≡ wrong = cc in
+      ap (λ (l : List ℕ). spelled_at thing l []) next ∙ no_byte thing byte (drop (at + 1) text) ∙ ap (λ (w : DecodeError). Err w) short
   cut_off wrong (x ∷ rest) h = absurd (cc)
 
-  pub ends : (e : ReadError) (rest bytes : List ℕ) → Fails e (u8_at rest) → spelled_at thing (drop at text) rest ≡ spelled_at thing text bytes → Fails e (spelled_at thing text bytes)
-  ends errors.NoMemory rest bytes fails comes = tt
-  ends (errors.Wrong wrong) rest bytes fails comes = sym comes ∙ cut_off wrong rest fails
+  pub ends : (e : DecodeError) (rest bytes : List ℕ) → Fails e (u8_at rest) → spelled_at thing (drop at text) rest ≡ spelled_at thing text bytes → Fails e (spelled_at thing text bytes)
+  ends e rest bytes fails comes = OnFalse_from (is_want_of_memory e) (spelled_at thing text bytes ≡ Err e) (λ known. sym comes ∙ cut_off e rest (OnFalse_at known fails))
 
   pub differs : (found : ℕ) (rest after : List ℕ) → u8_at rest ≡ Ok (found, after) → found ≢ byte → spelled_at thing (drop at text) rest ≡ Err (Rule (length rest))
   differs found rest after read ne =

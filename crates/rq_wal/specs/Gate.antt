@@ -2,7 +2,7 @@
 use Rattle.std.specs.Prelude.{◌≡◌, ◌≢◌, ◌⊎◌, ◌<◌, ◌≤◌, ◌-◌, ℕ, List, [], ◌∷◌, ◌++◌, length, take}
 use Rattle.std.specs.List.{flat_map}
 use Rattle.rq_outside.specs.Disk.{DiskMeaning, Only}
-use Rattle.rq_wal.specs.declared.frame.Frame.{Frame}
+use Rattle.rq_wire.specs.declared.frame.Frame.{Frame}
 use Rattle.rq_wal.specs.Spelling.{gated}
 
 -- the file is what is done, and then a closed gate

@@ -3,7 +3,7 @@ use Rattle.std.specs.Prelude.{◌≡◌, ◌≢◌, ◌<◌, ◌^◌, true, ℕ,
 use Rattle.rq_values.specs.Exact.{AreBytes}
 use Rattle.rq_wal.specs.declared.base.Base.{Base}
 use Rattle.rq_wal.specs.declared.base.Stored.{Stored}
-use Rattle.rq_wal.specs.declared.frame.Frame.{Frame}
+use Rattle.rq_wire.specs.declared.frame.Frame.{Frame}
 use Rattle.rq_wal.specs.Gate.{EndsIn}
 use Rattle.rq_wal.specs.Reading.{file_gives}
 use Rattle.rq_wal.specs.Replace.{generation_of, is_open}

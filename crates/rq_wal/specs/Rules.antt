@@ -4,8 +4,8 @@ use Rattle.rq_values.specs.Text.{is_id}
 use Rattle.rq_values.specs.Exact.{IsNamed, IsNoneOr, AreProper}
 use Rattle.rq_wire.specs.Exact.{IsEntry}
 use Rattle.rq_wal.specs.declared.base.Stored.{Stored}
-use Rattle.rq_wal.specs.declared.frame.Frame.{Frame}
-use Rattle.rq_wal.specs.declared.frame.Frame.TheVariants.{Vote, Splice, Boot}
+use Rattle.rq_wire.specs.declared.frame.Frame.{Frame}
+use Rattle.rq_wire.specs.declared.frame.Frame.TheVariants.{Vote, Splice, Boot}
 use Rattle.rq_wal.specs.Reading.{text_limit, is_small, is_next, is_some}
 use Rattle.rq_wal.specs.Spelling.{payload_bytes}
 use Rattle.rq_wal.specs.Stored.{applied}

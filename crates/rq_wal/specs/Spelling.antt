@@ -4,8 +4,8 @@ use Rattle.std.specs.List.{flat_map}
 use Rattle.rq_values.specs.Spelling.{u64_bytes, sized, option_bytes, list_bytes}
 use Rattle.rq_wire.specs.Spelling.{config_bytes, entry_bytes}
 use Rattle.rq_wal.specs.declared.base.Base.{Base}
-use Rattle.rq_wal.specs.declared.frame.Frame.{Frame}
-use Rattle.rq_wal.specs.declared.frame.Frame.TheVariants.{Vote, Splice, Boot}
+use Rattle.rq_wire.specs.declared.frame.Frame.{Frame}
+use Rattle.rq_wire.specs.declared.frame.Frame.TheVariants.{Vote, Splice, Boot}
 
 -- a base, what its node knows of itself: term, vote, boot
 abbrev pub own_bytes : Base → List ℕ

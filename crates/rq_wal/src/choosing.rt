@@ -13,7 +13,7 @@ use crate::error::OpenError;
 use crate::file::WalFile;
 use crate::reading::next_log;
 use rq_outside::FileNo;
-use rq_values::{Encode, NoMemory, ReadError, Wrong};
+use rq_values::{DecodeError, Encode, NoMemory};
 use std::alloc::Global;
 
 /// The number behind RQWAL and the version.
@@ -79,16 +79,19 @@ fn check_header(number: u8, file: &[u8]) -> Result<(), OpenError>
 }
 
 /// How many bytes there are from the wrong field on.
-fn left(wrong: Wrong) -> usize
+fn left(wrong: DecodeError) -> usize
     ensures { result ≡ left_of wrong }
 {
     match wrong {
-        Wrong::Short => 0,
-        Wrong::Kind(left, _) => left,
-        Wrong::Long(left, _) => left,
-        Wrong::NotText(left) => left,
-        Wrong::Order(left) => left,
-        Wrong::Rule(left) => left,
+        DecodeError::Kind(left, _) => left,
+        DecodeError::Long(left, _) => left,
+        DecodeError::Short(left)
+        | DecodeError::NotText(left)
+        | DecodeError::Order(left)
+        | DecodeError::Rule(left)
+        | DecodeError::Text(left)
+        | DecodeError::Trailing(left) => left,
+        DecodeError::NoMemory => 0,
     }
 }
 
@@ -131,12 +134,12 @@ fn read_log(
             };
             Ok((wal, stored))
         }
-        Err(ReadError::NoMemory) => Err(OpenError::NoMemory),
-        Err(ReadError::Wrong(wrong)) => Err(leaves(
-            number_of(no),
-            file,
-            file.len().saturating_sub(left(wrong)),
-        )),
+        Err(error) => {
+            if error.is_want_of_memory() {
+                return Err(OpenError::NoMemory);
+            }
+            Err(leaves(number_of(no), file, file.len().saturating_sub(left(error))))
+        }
     }
 }
 

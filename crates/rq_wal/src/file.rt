@@ -5,7 +5,7 @@ ghost use Rattle.rq_outside.specs.declared.pair.Arm.TheVariants as arms;
 ghost use Rattle.rq_outside.specs.declared.pair.DiskPair.{DiskPair};
 ghost use Rattle.rq_outside.specs.Disk.{LeavesOnly, HasRoom, Uses, Stays};
 ghost use Rattle.rq_outside.specs.Pair.{other, disk_at, arm_of, own_faults, UsedCalls, PairCause};
-ghost use Rattle.rq_wal.specs.declared.frame.Frame.{Frame};
+ghost use Rattle.rq_wire.specs.declared.frame.Frame.{Frame};
 ghost use Rattle.rq_wal.specs.declared.base.Base.{Base};
 ghost use Rattle.rq_wal.specs.declared.base.Stored.{Stored};
 ghost use Rattle.rq_wal.specs.Calls.{PassesMost, IsShort};
@@ -17,11 +17,11 @@ ghost use Rattle.rq_wal.specs.Stored.{applied_all};
 ghost use Rattle.rq_wal.specs.Pieces.{bytes_of};
 ghost use Rattle.rq_wal.specs.Spelling.{piece_of, gated};
 
-use crate::frame::Frame;
 use crate::framing::write_frames;
 use crate::spelling::pieces;
 use rq_outside::{Disk, DiskPair, Failed, FileNo};
 use rq_values::{Bytes, NoMemory};
+use rq_wire::Frame;
 use std::alloc::Global;
 use std::marker::Model;
 

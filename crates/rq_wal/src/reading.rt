@@ -1,43 +1,41 @@
 //! Reading a log file: docs/FORMATS.md, "The file pair".
 ghost use Rattle.std.specs.Prelude.{◌≡◌, ◌≤◌, ◌+◌, ◌∷◌, ◌++◌, [], length, IfOk, IfErr, OnOk};
-ghost use Rattle.rq_values.specs.declared.error.ReadError.TheVariants as errors;
-ghost use Rattle.rq_values.specs.declared.error.Wrong.TheVariants as wrongs;
+ghost use Rattle.rq_values.specs.declared.error.DecodeError.TheVariants as errors;
 ghost use Rattle.rq_values.specs.Reading.{Gives, checked, u8_at, u32_at, u64_at};
 ghost use Rattle.rq_wal.specs.Spelling.{base_bytes};
 ghost use Rattle.rq_wal.specs.Stored.{started, applied};
 ghost use Rattle.rq_wal.specs.Reading.{breaks, is_small, is_next, is_some, is_kind, some_entries_at, vote_at, splice_at, boot_at, payload_at, frame_at, frames_at, spelled_at, base_at, log_at};
 
 use crate::base::{Base, Stored, start};
-use crate::frame::Frame;
 use rq_values::{
-    Id, NoMemory, ReadError, Seq, TryCopy, Wrong, next_many, next_option, next_u8, next_u32,
-    next_u64,
+    DecodeError, Id, MAX_COMMAND, NoMemory, Seq, TryCopy, next_many, next_option, next_u8,
+    next_u32, next_u64,
 };
-use rq_wire::{Entry, TEXT_LIMIT};
+use rq_wire::{Entry, Frame};
 use std::alloc::Global;
 
 /// How many entries there are: at least one.
-fn next_count(bytes: &[u8]) -> Result<(u32, &[u8]), ReadError>
+fn next_count(bytes: &[u8]) -> Result<(u32, &[u8]), DecodeError>
     ensures { Gives (λ x. (x.0, x.1.now)) result (checked u32_at is_some breaks bytes.now) }
 {
     let (count, rest) = next_u32(bytes)?;
     if count == 0 {
-        return Err(ReadError::Wrong(Wrong::Rule(bytes.len())));
+        return Err(DecodeError::Rule(bytes.len()));
     }
     Ok((count, rest))
 }
 
 /// At least one entry.
 #[tactic(auto, unfolding(crate::specs::Reading::some_entries_at))]
-fn next_entries(alloc: Global, bytes: &[u8]) -> Result<(Vec<Entry>, &[u8]), ReadError>
+fn next_entries(alloc: Global, bytes: &[u8]) -> Result<(Vec<Entry>, &[u8]), DecodeError>
     ensures { Gives (λ x. (x.0.items, x.1.now)) result (some_entries_at bytes.now) }
 {
     let (count, rest) = next_count(bytes)?;
-    next_many::<Entry>(alloc, TEXT_LIMIT, count, rest)
+    next_many::<Entry>(alloc, MAX_COMMAND, count, rest)
 }
 
 /// Where a Splice begins: above the base, and at most one past the last entry.
-fn next_from<'a>(stored: &Stored, bytes: &'a [u8]) -> Result<(u64, &'a [u8]), ReadError>
+fn next_from<'a>(stored: &Stored, bytes: &'a [u8]) -> Result<(u64, &'a [u8]), DecodeError>
     ensures { Gives (λ x. (x.0, x.1.now)) result (checked u64_at (is_next stored.now) breaks bytes.now) }
 {
     let (from, rest) = next_u64(bytes)?;
@@ -46,15 +44,15 @@ fn next_from<'a>(stored: &Stored, bytes: &'a [u8]) -> Result<(u64, &'a [u8]), Re
     if from > index && from - index - 1 <= count {
         return Ok((from, rest));
     }
-    Err(ReadError::Wrong(Wrong::Rule(bytes.len())))
+    Err(DecodeError::Rule(bytes.len()))
 }
 
 #[tactic(auto, unfolding(crate::specs::Reading::vote_at))]
-fn next_vote(alloc: Global, bytes: &[u8]) -> Result<(Frame, &[u8]), ReadError>
+fn next_vote(alloc: Global, bytes: &[u8]) -> Result<(Frame, &[u8]), DecodeError>
     ensures { Gives (λ x. (x.0, x.1.now)) result (vote_at bytes.now) }
 {
     let (term, rest) = next_u64(bytes)?;
-    match next_option::<Id>(alloc, TEXT_LIMIT, rest) {
+    match next_option::<Id>(alloc, MAX_COMMAND, rest) {
         Err(error) => Err(error),
         Ok((vote, rest)) => Ok((Frame::Vote { term, vote }, rest)),
     }
@@ -65,7 +63,7 @@ fn next_splice<'a>(
     alloc: Global,
     stored: &Stored,
     bytes: &'a [u8],
-) -> Result<(Frame, &'a [u8]), ReadError>
+) -> Result<(Frame, &'a [u8]), DecodeError>
     ensures { Gives (λ x. (x.0, x.1.now)) result (splice_at stored.now bytes.now) }
 {
     let (from, rest) = next_from(stored, bytes)?;
@@ -75,12 +73,12 @@ fn next_splice<'a>(
 }
 
 #[tactic(auto, unfolding(crate::specs::Reading::boot_at))]
-fn next_boot(bytes: &[u8]) -> Result<(Frame, &[u8]), ReadError>
+fn next_boot(bytes: &[u8]) -> Result<(Frame, &[u8]), DecodeError>
     ensures { Gives (λ x. (x.0, x.1.now)) result (boot_at bytes.now) }
 {
     let (boot, rest) = next_u64(bytes)?;
     if boot >= 1 << 63 {
-        return Err(ReadError::Wrong(Wrong::Rule(bytes.len())));
+        return Err(DecodeError::Rule(bytes.len()));
     }
     Ok((Frame::Boot { boot }, rest))
 }
@@ -92,7 +90,7 @@ fn next_payload<'a>(
     stored: &Stored,
     kind: u8,
     bytes: &'a [u8],
-) -> Result<(Frame, &'a [u8]), ReadError>
+) -> Result<(Frame, &'a [u8]), DecodeError>
     ensures { Gives (λ x. (x.0, x.1.now)) result (payload_at stored.now kind bytes.now) }
 {
     match kind {
@@ -103,12 +101,12 @@ fn next_payload<'a>(
 }
 
 /// Which frame comes.
-fn next_frame_kind(bytes: &[u8]) -> Result<(u8, &[u8]), ReadError>
-    ensures gives { Gives (λ x. (x.0, x.1.now)) result (checked u8_at is_kind wrongs.Kind bytes.now) }
+fn next_frame_kind(bytes: &[u8]) -> Result<(u8, &[u8]), DecodeError>
+    ensures gives { Gives (λ x. (x.0, x.1.now)) result (checked u8_at is_kind errors.Kind bytes.now) }
 {
     let (kind, rest) = next_u8(bytes)?;
     if kind == 0 || kind > 3 {
-        return Err(ReadError::Wrong(Wrong::Kind(bytes.len(), kind)));
+        return Err(DecodeError::Kind(bytes.len(), kind));
     }
     Ok((kind, rest))
 }
@@ -119,7 +117,7 @@ fn next_frame<'a>(
     alloc: Global,
     stored: &Stored,
     bytes: &'a [u8],
-) -> Result<(Frame, &'a [u8]), ReadError>
+) -> Result<(Frame, &'a [u8]), DecodeError>
     ensures { Gives (λ x. (x.0, x.1.now)) result (frame_at stored.now bytes.now) }
 {
     let (kind, sized) = next_frame_kind(bytes)?;
@@ -128,7 +126,7 @@ fn next_frame<'a>(
     if payload.len() as u64 == len as u64 + rest.len() as u64 {
         return Ok((frame, rest));
     }
-    Err(ReadError::Wrong(Wrong::Rule(sized.len())))
+    Err(DecodeError::Rule(sized.len()))
 }
 
 /// Adds the items of one list to another.
@@ -164,18 +162,18 @@ fn apply(stored: Stored, frame: Frame) -> Result<Stored, NoMemory>
 }
 
 /// A gate, and what stands behind it.
-fn next_gate(bytes: &[u8]) -> Result<(u8, &[u8]), ReadError>
+fn next_gate(bytes: &[u8]) -> Result<(u8, &[u8]), DecodeError>
     ensures found { IfOk result (λ x. bytes.now ≡ x.0 ∷ x.1.now) }
-    ensures none { IfErr result (λ e. (e ≡ errors.Wrong wrongs.Short) × (bytes.now ≡ [])) }
+    ensures none { IfErr result (λ e. (e ≡ errors.Short 0) × (bytes.now ≡ [])) }
 {
     match bytes {
-        [] => Err(ReadError::Wrong(Wrong::Short)),
+        [] => Err(DecodeError::Short(0)),
         [gate, rest @ ..] => Ok((*gate, rest)),
     }
 }
 
 /// Frames behind open gates, up to a closed gate: what is stored then, and the bytes from that gate on.
-fn next_frames(alloc: Global, first: Stored, bytes: &[u8]) -> Result<(Stored, &[u8]), ReadError>
+fn next_frames(alloc: Global, first: Stored, bytes: &[u8]) -> Result<(Stored, &[u8]), DecodeError>
     ensures { Gives (λ x. (x.0, x.1.now)) result (frames_at (length bytes.now + 1) first bytes.now) }
 {
     let mut stored = first;
@@ -192,7 +190,7 @@ fn next_frames(alloc: Global, first: Stored, bytes: &[u8]) -> Result<(Stored, &[
 }
 
 /// Just these bytes.
-fn next_spelled<'a>(text: &[u8], bytes: &'a [u8]) -> Result<&'a [u8], ReadError>
+fn next_spelled<'a>(text: &[u8], bytes: &'a [u8]) -> Result<&'a [u8], DecodeError>
     ensures gives { (thing : Base) → Gives (λ rest. (thing, rest.now)) result (spelled_at thing text.now bytes.now) }
     ensures len { IfOk result (λ rest. length bytes.now ≡ length text.now + length rest.now) }
 {
@@ -200,7 +198,7 @@ fn next_spelled<'a>(text: &[u8], bytes: &'a [u8]) -> Result<&'a [u8], ReadError>
     for at in 0..text.len() {
         let (found, after) = next_u8(rest)?;
         if found != text[at] {
-            return Err(ReadError::Wrong(Wrong::Rule(rest.len())));
+            return Err(DecodeError::Rule(rest.len()));
         }
         rest = after;
     }
@@ -209,7 +207,7 @@ fn next_spelled<'a>(text: &[u8], bytes: &'a [u8]) -> Result<&'a [u8], ReadError>
 
 /// The first base, spelled like this, with its length. The bytes after it.
 #[tactic(auto, unfolding(crate::specs::Reading::base_at, rq_values::specs::Reading::sized_at))]
-fn next_base<'a>(spelled: &[u8], bytes: &'a [u8]) -> Result<&'a [u8], ReadError>
+fn next_base<'a>(spelled: &[u8], bytes: &'a [u8]) -> Result<&'a [u8], DecodeError>
     ensures { (first : Base) → spelled.now ≡ base_bytes first → Gives (λ rest. (first, rest.now)) result (base_at first bytes.now) }
 {
     let (len, base) = next_u64(bytes)?;
@@ -217,7 +215,7 @@ fn next_base<'a>(spelled: &[u8], bytes: &'a [u8]) -> Result<&'a [u8], ReadError>
     if base.len() as u128 == len as u128 + rest.len() as u128 {
         return Ok(rest);
     }
-    Err(ReadError::Wrong(Wrong::Rule(bytes.len())))
+    Err(DecodeError::Rule(bytes.len()))
 }
 
 /// A file from its base's length on, with a first base that is spelled like this: what is stored, and the bytes from the
@@ -228,7 +226,7 @@ pub fn next_log<'a>(
     first: &Base,
     spelled: &[u8],
     bytes: &'a [u8],
-) -> Result<(Stored, &'a [u8]), ReadError>
+) -> Result<(Stored, &'a [u8]), DecodeError>
     requires { spelled.now ≡ base_bytes first.now }
     ensures { Gives (λ x. (x.0, x.1.now)) result (log_at first.now bytes.now) }
 {

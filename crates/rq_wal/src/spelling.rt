@@ -4,8 +4,8 @@ ghost use Rattle.rq_values.specs.Writing.{KeepsFront};
 ghost use Rattle.rq_wal.specs.Spelling.{own_bytes, snapshot_bytes, base_bytes, payload_bytes, kind_of, piece_of, body_bytes};
 
 use crate::base::Base;
-use crate::frame::Frame;
 use rq_values::{Bytes, Encode, NoMemory, put_bytes, put_list, put_option, put_u8, put_u64};
+use rq_wire::Frame;
 use std::alloc::Global;
 
 impl Encode for Base {

@@ -1,1 +1,4 @@
 pub mod Agreeing
+pub mod Rising
+pub mod Local
+pub mod Exact

@@ -1,6 +1,7 @@
 //! Members, configurations and their quorums.
-ghost use Rattle.std.specs.Prelude.{◌≡◌, length};
-ghost use Rattle.rq_wire.specs.Config.{quorum_of};
+ghost use Rattle.std.specs.Prelude.{◌≡◌, length, IsTrue};
+ghost use Rattle.rq_values.specs.Reading.{last_of};
+ghost use Rattle.rq_wire.specs.Config.{quorum_of, comes_after, ids_rise, IsConfigOf};
 
 use rq_values::{Addr, Id, NoMemory, Seq, TryCopy};
 use std::alloc::Global;
@@ -46,23 +47,64 @@ pub struct Config {
 }
 
 impl Model for Config {
-    ghost use Rattle.std.specs.Prelude.{List};
+    ghost use Rattle.std.specs.Prelude.{List, IsTrue};
     ghost use Rattle.rq_wire.specs.declared.config.Member.{Member};
+    ghost use Rattle.rq_wire.specs.Config.{ids_rise};
 
     ghost Value = { List Member };
 
     ghost view = { λ config. config.members };
+
+    ghost invariant = { λ config. IsTrue (ids_rise config.members) };
+}
+
+/// Whether an id comes after that of the last member.
+pub(crate) fn is_after(before: &[Member], id: &Id) -> bool
+    ensures { result ≡ comes_after (last_of before.now) id.now }
+{
+    match before.last() {
+        None => true,
+        Some(last) => last.id < *id,
+    }
+}
+
+/// Whether the members' ids rise.
+fn do_ids_rise(members: &[Member]) -> bool
+    ensures { result ≡ ids_rise members.now }
+{
+    for i in 0..members.len() {
+        if !is_after(&members[..i], &members[i].id) {
+            return false;
+        }
+    }
+    true
 }
 
 impl Config {
-    pub fn new(members: Seq<Member>) -> Config
+    /// A configuration of these members, or None exactly where their ids don't rise.
+    pub fn new(members: Seq<Member>) -> Option<Config>
+        ensures { IsConfigOf members result }
+    {
+        if do_ids_rise(members.as_slice()) {
+            Some(Config { members })
+        } else {
+            drop(members);
+            None
+        }
+    }
+
+    /// A configuration of these members, whose ids rise.
+    pub(crate) fn rising(members: Seq<Member>) -> Config
+        requires { IsTrue (ids_rise members) }
         ensures { result ≡ members }
     {
         Config { members }
     }
 
+    /// Its members, in rising order of their ids.
     pub fn members(&self) -> &[Member]
-        ensures { result.now ≡ self.now }
+        ensures members { result.now ≡ self.now }
+        ensures rise { IsTrue (ids_rise self.now) }
     {
         self.members.as_slice()
     }

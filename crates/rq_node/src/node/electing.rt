@@ -2,7 +2,7 @@
 ghost use Rattle.std.specs.Prelude.{◌≡◌, ◌<◌, ◌-◌, ◌^◌, ◌*◌, [], length, IsTrue, Some, OnOk, OnErr, IfOk, IsErrOf};
 ghost use Rattle.rq_values.specs.Text.{is_id};
 ghost use Rattle.rq_outside.specs.Pair.{arm_of, UsedCalls};
-ghost use Rattle.rq_wal.specs.declared.frame.Frame.TheVariants.{Vote};
+ghost use Rattle.rq_wire.specs.declared.frame.Frame.TheVariants.{Vote};
 ghost use Rattle.rq_wal.specs.Calls.{PassesMost};
 ghost use Rattle.rq_wal.specs.Later.{Later};
 ghost use Rattle.rq_node.specs.declared.turn_error.TurnError.TheVariants.{Disk as DiskFailed, NoMemory as OutOfMemory};

@@ -15,8 +15,8 @@ ghost use Rattle.rq_node.specs.Node.{Kept, Durable, Boot, kept_of, kept_with, ke
 ghost use Rattle.rq_node.specs.declared.log_entry.LogEntry.{LogEntry as TheLogEntry};
 ghost use Rattle.rq_node.specs.declared.log_entry.Content.{Content as TheContent};
 ghost use Rattle.rq_node.specs.declared.log_entry.Content.TheVariants.{Execute};
-ghost use Rattle.rq_command.specs.declared.error.CommandError.{CommandError as TheError};
-ghost use Rattle.rq_command.specs.declared.error.CommandError.TheVariants as commands;
+ghost use Rattle.rq_values.specs.declared.error.DecodeError.{DecodeError as TheError};
+ghost use Rattle.rq_values.specs.declared.error.DecodeError.TheVariants as commands;
 ghost use Rattle.rq_engine.specs.declared.item.Item.{Item as TheItem};
 ghost use Rattle.rq_engine.specs.Command.{execute_bytes};
 ghost use Rattle.rq_node.specs.Files.{first_base, first_image, body_of, stored_entry, stored_of};
@@ -31,10 +31,10 @@ use crate::log_entry::{Content, LogEntry};
 use crate::node::asking::MOST_BYTES;
 use crate::role::Role;
 use crate::turn_error::TurnError;
-use rq_command::{CommandError, decode_execute};
+use rq_command::decode_execute;
 use rq_engine::{Item, Tables};
 use rq_outside::{Disk, DiskPair};
-use rq_values::{Addr, Bytes, Id, NoMemory, Seq, put_bytes, put_u8, put_u32};
+use rq_values::{Addr, Bytes, DecodeError, Id, NoMemory, Seq, put_bytes, put_u8, put_u32};
 use rq_wal::{Base, Frame, OpenError, Stored, WalFile, current_logs_stand, open};
 use rq_wire::{Body, Config, Entry, Member};
 use std::alloc::Global;
@@ -228,7 +228,7 @@ fn list_of(alloc: Global, index: u64, command: &[u8]) -> Result<Seq<Item>, NodeE
         let len = u32::try_from(command.len()).unwrap_or(u32::MAX);
         return Err(NodeError::Command {
             index,
-            error: CommandError::Long(0, len),
+            error: DecodeError::Long(0, len),
         });
     }
     match decode_execute(alloc, command) {
@@ -238,13 +238,13 @@ fn list_of(alloc: Global, index: u64, command: &[u8]) -> Result<Seq<Item>, NodeE
 }
 
 /// The refusal of a node for a command at this index.
-fn no_command(index: u64, error: CommandError) -> NodeError
+fn no_command(index: u64, error: DecodeError) -> NodeError
     ensures told { ((error ≡ commands.NoMemory) × (result ≡ OutOfMemory)) ⊎ ((error ≢ commands.NoMemory) × (result ≡ Command index error)) }
     ensures no_disk { result ≡ DiskFailed → ⊥ }
     ensures no_memory { error ≡ commands.NoMemory → result ≡ OutOfMemory }
 {
     match error {
-        CommandError::NoMemory => NodeError::NoMemory,
+        DecodeError::NoMemory => NodeError::NoMemory,
         error => NodeError::Command { index, error },
     }
 }
@@ -263,13 +263,16 @@ fn first_base(alloc: Global, id: Id) -> Result<Base, NoMemory>
         http,
         raft,
     })?;
+    let Some(config) = Config::new(members) else {
+        unreachable!()
+    };
     Ok(Base {
         term: 0,
         vote: None,
         boot: 0,
         index: 0,
         last_term: 0,
-        config: Config::new(members),
+        config,
         state: first_image(alloc, &id)?,
     })
 }

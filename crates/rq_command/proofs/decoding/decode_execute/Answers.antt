@@ -1,12 +1,12 @@
 use Rattle.std.proofs.Common.{◌<◌, ◌^◌, arith}
-use Rattle.rq_command.specs.declared.decoding.TheConstants.{TEXT_LIMIT}
+use Rattle.rq_values.specs.declared.limits.TheConstants.{MAX_COMMAND}
 use Rattle.rq_command.proofs.Told.{all_bytes, taken, found}
 use Rattle.rq_command.proofs.decoding.decode_execute.Goals as goal
 
 pub returns-clause-ok : goal.returns-clause-ok
-returns-clause-ok c = taken c.each_text_is_prepared.ensures.some TEXT_LIMIT c.args.bytes.now (all_bytes c.args.bytes.now c.type_inv.bytes) c.decode_whole.result c.decode_whole.ensures
+returns-clause-ok c = taken c.each_text_is_prepared.ensures.some MAX_COMMAND c.args.bytes.now (all_bytes c.args.bytes.now c.type_inv.bytes) c.decode_whole.result c.decode_whole.ensures
 
 pub returns-clause-complete : goal.returns-clause-complete
 returns-clause-complete c =
-    let small : TEXT_LIMIT < 2 ^ 32 = omega arith in
-    found c.each_text_is_prepared.ensures.some TEXT_LIMIT c.args.bytes.now (all_bytes c.args.bytes.now c.type_inv.bytes) c.each_text_is_prepared.ensures.one small c.decode_whole.result c.decode_whole.ensures
+    let small : MAX_COMMAND < 2 ^ 32 = omega arith in
+    found c.each_text_is_prepared.ensures.some MAX_COMMAND c.args.bytes.now (all_bytes c.args.bytes.now c.type_inv.bytes) c.each_text_is_prepared.ensures.one small c.decode_whole.result c.decode_whole.ensures

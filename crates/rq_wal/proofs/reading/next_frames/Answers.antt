@@ -1,6 +1,6 @@
 use Rattle.std.proofs.Common.{Ok, ◌≡◌, ◌+◌, ◌∷◌, List, ℕ, length, sym, ◌∙◌, ap, subst, arith}
 use Rattle.std.proofs.lemmas.Result.{err_from_is_err_and}
-use Rattle.rq_values.specs.declared.error.ReadError.{ReadError}
+use Rattle.rq_values.specs.declared.error.DecodeError.{DecodeError}
 use Rattle.rq_values.specs.Reading.{Fails}
 use Rattle.rq_wal.specs.Reading.{frames_at}
 use Rattle.rq_wal.specs.declared.base.Stored.{Stored}
@@ -13,7 +13,7 @@ returns-in_err-gate c =
     let total = frames_at (length c.args.bytes.now + 1) c.args.first c.args.bytes.now in
     let p = err_from_is_err_and c.from_residual.result c.from_residual.ensures.1 in
     let comes = subst (λ (l : List ℕ). Comes c.frames.stored l total) c.in_err-gate.ensures.none.1 c.frames.invariant in
-    rw (p.1, p.2) (subst (λ (e : ReadError). Fails e total) (sym c.in_err-gate.ensures.none.0) (no_gate c.frames.stored total comes))
+    rw (p.1, p.2) (subst (λ (e : DecodeError). Fails e total) (sym c.in_err-gate.ensures.none.0) (no_gate c.frames.stored total comes))
 
 pub returns-then-gate-ne1 : goal.returns-then-gate-ne1
 returns-then-gate-ne1 c =

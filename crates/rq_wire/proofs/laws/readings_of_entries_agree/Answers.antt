@@ -1,5 +1,5 @@
 use Rattle.rq_wire.specs.Reading.{entry_at}
-use Rattle.rq_wire.specs.Whole.{answer_of}
+use Rattle.rq_values.specs.Place.{answer_of}
 use Rattle.rq_wire.proofs.Agreeing.{answers}
 use Rattle.rq_wire.proofs.laws.readings_of_entries_agree.Goals as goal
 

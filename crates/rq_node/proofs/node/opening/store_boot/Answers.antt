@@ -1,6 +1,6 @@
 use Rattle.std.proofs.Common.{◌∷◌, [], ◌∙◌, Result, Err, ap, subst}
 use Rattle.rq_node.specs.declared.turn_error.TurnError.{TurnError}
-use Rattle.rq_wal.specs.declared.frame.Frame.TheVariants as frames
+use Rattle.rq_wire.specs.declared.frame.Frame.TheVariants as frames
 use Rattle.rq_node.specs.Files.{stored_of}
 use Rattle.rq_node.specs.Node.{Node, Kept, Boot}
 use Rattle.rq_node.specs.Standing.{HasFile}

@@ -1,6 +1,6 @@
-//! Frames: what is added to a log file.
+//! Frames: what is added to a log.
+use crate::entry::Entry;
 use rq_values::{Id, Seq};
-use rq_wire::Entry;
 
 /// One change of what a log file stands for.
 #[derive(Drop)]
@@ -11,4 +11,13 @@ pub enum Frame {
     Splice { from: u64, entries: Seq<Entry> },
     /// How often the node was started.
     Boot { boot: u64 },
+}
+
+impl Drop for Frame {
+    fn drop(self) {
+        match self {
+            Frame::Vote { term: _, vote: _ } | Frame::Boot { boot: _ } => (),
+            Frame::Splice { from: _, entries } => drop(entries),
+        }
+    }
 }

@@ -1,11 +1,13 @@
 -- These readers depend on nothing behind what they read.
 use Rattle.std.proofs.Common.{ℕ, ◌==◌, List, Option, Ok, cond}
-use Rattle.rq_values.specs.declared.error.Wrong.TheVariants.{Order}
+use Rattle.rq_values.specs.declared.error.DecodeError.TheVariants.{Order}
 use Rattle.rq_values.specs.Reading.{◌>>=◌, done, made, kind_at, bool_at, u64_at, bytes_at, id_at, addr_at}
-use Rattle.rq_values.specs.Local.{IsLocal, local_bind, local_made, local_done, local_choice, local_checked, local_kind, local_bool, local_u64, local_bytes, local_id, local_addr, local_rising_list}
+use Rattle.rq_values.specs.Local.{IsLocal}
+use Rattle.rq_values.proofs.Local.{local_bind, local_made, local_done, local_choice, local_checked, local_kind, local_bool, local_u64, local_bytes, local_id, local_addr, local_rising_list}
 use Rattle.rq_wire.specs.declared.config.Member.{Member}
 use Rattle.rq_wire.specs.declared.entry.Body.TheVariants as bodies
-use Rattle.rq_wire.specs.Reading.{comes_after, id_after, member_rest, member_after, config_at, body_at, entry_at}
+use Rattle.rq_wire.specs.Config.{comes_after}
+use Rattle.rq_wire.specs.Reading.{id_after, member_rest, member_after, config_at, body_at, entry_at}
 
 local_id_after : (limit : ℕ) (last : Option Member) → IsLocal (id_after limit last)
 unfolding id_after
