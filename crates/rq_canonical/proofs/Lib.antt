@@ -1,5 +1,4 @@
 mod Again
-mod BuiltText
 mod GoodExpr
 mod GoodStmt
 mod Opened

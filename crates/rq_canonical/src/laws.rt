@@ -7,11 +7,9 @@ ghost use Rattle.rq_grammar.specs.Depth.{the_limits, deepest, most_open};
 ghost use Rattle.rq_grammar.specs.Print.{tokens_of};
 ghost use Rattle.rq_grammar.specs.Proper.{is_statement};
 ghost use Rattle.rq_sql.specs.Read.{most_bytes, Means};
-ghost use Rattle.rq_settle.specs.Prepared.{IsPrepared};
 ghost use Rattle.rq_print.specs.Text.{text_of};
 ghost use Rattle.rq_print.specs.Written.{statement_written};
-ghost use Rattle.rq_engine.specs.Canonical.{canonical};
-ghost use Rattle.rq_engine.specs.declared.item.Item.TheVariants.{Run};
+ghost use Rattle.rq_statement.specs.Settled.{IsSettled};
 
 /// A statement that is read is proper, its names and texts are texts, and its blobs are bytes.
 pub fn what_is_read_is_proper()
@@ -38,19 +36,17 @@ pub fn printed_text_is_read()
     rq_lexer::tokens_in_order();
 }
 
-/// A statement that runs is prepared from its canonical text as itself.
-pub fn canonical_text_is_prepared_again()
-    ensures { (text : List ℕ) (statement : _) → IsPrepared text (Run statement) → IsPrepared (canonical statement) (Run statement) }
+/// Each settled statement is what its canonical text means, and that text is UTF-8 without NUL.
+pub fn settled_text_is_read()
+    ensures read { (s : Stmt) → IsSettled s → Means (text_of s) (Ok s) }
+    ensures text { (s : Stmt) → IsSettled s → is_text (text_of s) ≡ true }
 {
     printed_text_is_read();
+    canonical_text_is_text();
 }
 
 /// Canonical text is UTF-8 without NUL.
 pub fn canonical_text_is_text()
     // That of each proper statement that is written in texts and bytes.
-    ensures printed { (s : Stmt) → is_statement s ≡ true → statement_written s ≡ true → is_text (text_of s) ≡ true }
-    // So is that of each statement that runs.
-    ensures prepared { (text : List ℕ) (statement : _) → IsPrepared text (Run statement) → is_text (canonical statement) ≡ true }
-{
-    what_is_read_is_proper();
-}
+    ensures { (s : Stmt) → is_statement s ≡ true → statement_written s ≡ true → is_text (text_of s) ≡ true }
+{}

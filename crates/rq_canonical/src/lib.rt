@@ -5,7 +5,7 @@ mod laws;
 mod rereading;
 
 pub use laws::{
-    canonical_text_is_prepared_again, canonical_text_is_text, few_parentheses_are_open,
-    printed_text_is_read, what_is_read_is_proper,
+    canonical_text_is_text, few_parentheses_are_open, printed_text_is_read, settled_text_is_read,
+    what_is_read_is_proper,
 };
 pub use rereading::read_printed;

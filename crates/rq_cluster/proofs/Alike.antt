@@ -1,6 +1,6 @@
 -- A line that can stand somewhere leads somewhere, whatever its statements are read as.
 use Rattle.std.proofs.Common.{◌≡◌, ℕ, ◌+◌, List, [], ◌∷◌, Bool, true, false, bytes_eq, if◌then◌else◌, Option, Some, None, option_and_then, refl, sym, ◌∙◌, ap}
-use Rattle.rq_engine.specs.declared.item.Item.{Item}
+use Rattle.rq_statement.specs.declared.item.Item.{Item}
 use Rattle.rq_json.specs.Body.{texts_of}
 use Rattle.rq_settle.specs.Prepared.{IsPrepared}
 use Rattle.rq_node.specs.Node.{Node, Turn}

@@ -4,10 +4,12 @@ use Rattle.std.specs.Prelude.{All}
 use Rattle.std.proofs.lemmas.List.Elements.{All-push}
 use Rattle.std.proofs.lemmas.List.{take_more}
 use Rattle.rq_values.specs.Text.{is_text}
-use Rattle.rq_engine.specs.declared.item.Item.{Item}
-use Rattle.rq_engine.specs.declared.item.Item.TheVariants.{Run, Fail}
-use Rattle.rq_engine.specs.declared.statement.Statement.{Statement}
-use Rattle.rq_engine.specs.Canonical.{canonical}
+use Rattle.rq_statement.specs.declared.item.Item.{Item}
+use Rattle.rq_statement.specs.declared.item.Item.TheVariants.{Run, Fail}
+use Rattle.rq_grammar.specs.declared.stmt.Stmt.{Stmt}
+use Rattle.rq_print.specs.Text.{text_of}
+use Rattle.rq_statement.specs.Settled.{IsSettled}
+use Rattle.rq_statement.specs.Items.{IsItem}
 use Rattle.rq_node.specs.Sound.{IsReadable}
 use Rattle.rq_json.specs.Body.{texts_of}
 use Rattle.rq_settle.specs.Prepared.{IsPrepared}
@@ -43,14 +45,10 @@ pub some_items : Readable → (texts : List (List ℕ)) → (items : List Item) 
 some_items readable [] = ([], tt)
 some_items readable (text ∷ texts) = let one = readable text in let rest = some_items readable texts in (one.0 ∷ rest.0, (one.1, rest.1))
 
--- a statement's canonical text is prepared as the statement again
-abbrev pub Again : Type 0
-Again = (text : List ℕ) (statement : Statement) → IsPrepared text (Run statement) → IsPrepared (canonical statement) (Run statement)
+-- the canonical text of a settled statement is a text
+abbrev pub TextLaw : Type 0
+TextLaw = (s : Stmt) → IsSettled s → is_text (text_of s) ≡ true
 
--- and it is a text
-abbrev pub Told : Type 0
-Told = (text : List ℕ) (statement : Statement) → IsPrepared text (Run statement) → is_text (canonical statement) ≡ true
-
-pub readable_item : Again → Told → (text : List ℕ) (item : Item) → IsPrepared text item → ((error : List ℕ) → item ≡ Fail error → is_text error ≡ true) → IsReadable item
-readable_item again told text (Run statement) prepared errors = (told text statement prepared, again text statement prepared)
-readable_item again told text (Fail error) prepared errors = (errors error refl, tt)
+pub readable_item : TextLaw → (item : Item) → IsItem item → IsReadable item
+readable_item law (Run s) is = (law s is, is)
+readable_item law (Fail error) is = (is, tt)

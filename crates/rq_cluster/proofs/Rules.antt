@@ -2,8 +2,8 @@
 use Rattle.std.proofs.Common.{◌≡◌, ◌≤◌, ◌||◌, ◌==◌, ◌+◌, ◌-◌, ◌^◌, if◌then◌else◌, ℕ, Bool, true, false, Some, List, [], ◌∷◌, length, refl, arith, nat_lt}
 use Rattle.std.specs.Prelude.{All}
 use Rattle.std.proofs.lemmas.List.Elements.{All-cons, All-nil}
-use Rattle.rq_engine.specs.declared.item.Item.{Item}
-use Rattle.rq_engine.specs.declared.say.Say.TheVariants.{NoLeader, EntryTooLarge}
+use Rattle.rq_statement.specs.declared.item.Item.{Item}
+use Rattle.rq_request.specs.declared.say.Say.TheVariants.{NoLeader, EntryTooLarge}
 use Rattle.rq_engine.specs.Command.{execute_bytes}
 use Rattle.rq_node.specs.declared.log_entry.LogEntry.{LogEntry}
 use Rattle.rq_node.specs.declared.log_entry.Content.{Content}

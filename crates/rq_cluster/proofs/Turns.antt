@@ -12,7 +12,7 @@ use Rattle.rq_node.specs.declared.node.Node.{Node as RunningNode}
 use Rattle.rq_node.specs.Node.{Node, Kept, Durable, Turn, kept_of, kept_after}
 use Rattle.rq_node.specs.Standing.{IsOpen, Stands, CanBeRead}
 use Rattle.rq_script.specs.Cluster.{Stand, Running, Down, Armed, Server, Course, NoFault, Storing, Fate, Done, Struck as HasStruck, fate, fate_of, ended, needed, passes, left_after, happens, happens_at, gone_down, whole}
-use Rattle.rq_engine.specs.declared.say.Answer.{Answer}
+use Rattle.rq_request.specs.declared.say.Answer.{Answer}
 use Rattle.rq_script.specs.ScriptText.{answer_text, answers_text, down_text}
 use Rattle.rq_cluster.specs.Acting.{event}
 use Rattle.rq_cluster.specs.declared.arming.Arming.{Arming}

@@ -7,7 +7,7 @@ use Rattle.std.proofs.lemmas.List.Elements.{All-nil}
 use Rattle.rq_outside.specs.declared.pair.DiskPair.{DiskPair}
 use Rattle.rq_outside.specs.declared.pair.Arm.TheVariants.{Off, Struck}
 use Rattle.rq_outside.specs.Disk.{DiskMeaning}
-use Rattle.rq_engine.specs.declared.item.Item.{Item}
+use Rattle.rq_statement.specs.declared.item.Item.{Item}
 use Rattle.rq_wal.specs.declared.base.Base.{Base}
 use Rattle.rq_wal.specs.Current.{AreClosed}
 use Rattle.rq_wal.specs.Reading.{pair_gives, by_generations}

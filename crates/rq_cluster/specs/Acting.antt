@@ -6,7 +6,7 @@ use Rattle.rq_outside.specs.declared.pair.Arm.TheVariants.{Off, Struck}
 use Rattle.rq_outside.specs.declared.pair.FileNo.{FileNo}
 use Rattle.rq_outside.specs.Disk.{DiskMeaning, Only}
 use Rattle.rq_outside.specs.Pair.{arm_of, disk_at}
-use Rattle.rq_engine.specs.declared.item.Item.{Item}
+use Rattle.rq_statement.specs.declared.item.Item.{Item}
 use Rattle.rq_node.specs.declared.node.Node.{Node as RunningNode}
 use Rattle.rq_node.specs.Node.{Node, Turn, kept_of}
 use Rattle.rq_node.specs.Rules as rules

@@ -7,7 +7,7 @@ use Rattle.rq_outside.specs.Disk.{DiskMeaning}
 use Rattle.rq_outside.specs.Pair.{arm_of}
 use Rattle.rq_node.specs.declared.node.Node.{Node as RunningNode}
 use Rattle.rq_node.specs.Standing.{IsOpen, Stands, CanBeRead}
-use Rattle.rq_engine.specs.declared.item.Item.{Item}
+use Rattle.rq_statement.specs.declared.item.Item.{Item}
 use Rattle.rq_script.specs.Cluster.{Stand, Running, Down, Armed, Server, Cluster, Course, Steps, MayReach, named, done, whole}
 use Rattle.rq_script.specs.Preparing.{statements, AreRead}
 use Rattle.rq_script.specs.ScriptLine.{Line}

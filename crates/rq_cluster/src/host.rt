@@ -13,13 +13,13 @@ ghost use Rattle.rq_cluster.specs.Acting.{pending_at, asked_of, HasStruck, Crash
 ghost use Rattle.rq_cluster.specs.Shown.{HostReady, IsArmed, LetsPass, Goes, BreaksOff, armed_of};
 
 use crate::arming::Arming;
-use rq_engine::Item;
 use rq_node::{Node, NodeError, State, TurnError, Waiting};
 use rq_outside::{CrashDisk, DiskPair};
 use rq_script::{
     write_all_pending, write_answer, write_answers, write_down, write_show, write_show_down,
     write_up,
 };
+use rq_statement::Item;
 use rq_values::{Id, NoMemory, Seq};
 use rq_wal::current_logs_stand;
 use std::alloc::Global;

@@ -1,16 +1,14 @@
 //! The statements of a body, prepared for the log.
-ghost use Rattle.std.specs.Prelude.{◌≡◌, true, ℕ, List, Some, None, All, IfOk, MatchOption, ⊤};
-ghost use Rattle.rq_values.specs.Text.{is_text};
-ghost use Rattle.rq_engine.specs.declared.item.Item.TheVariants.{Fail};
+ghost use Rattle.std.specs.Prelude.{◌≡◌, ℕ, List, Some, None, All, IfOk, MatchOption, ⊤};
 ghost use Rattle.rq_json.specs.Body.{texts_of};
 ghost use Rattle.rq_settle.specs.Prepared.{IsPrepared};
 ghost use Rattle.rq_node.specs.Sound.{IsReadable};
 ghost use Rattle.rq_script.specs.Preparing.{AreRead};
 
-use rq_canonical::{canonical_text_is_prepared_again, canonical_text_is_text};
-use rq_engine::Item;
+use rq_canonical::settled_text_is_read;
 use rq_json::statements_of;
 use rq_settle::prepare;
+use rq_statement::{Item, know_item};
 use rq_values::{NoMemory, Seq, Text};
 use std::alloc::Global;
 
@@ -44,18 +42,8 @@ fn prepared(alloc: Global, text: &[u8]) -> Result<Item, NoMemory>
     ensures read { IfOk result (λ item. IsPrepared text.now item) }
     ensures readable { IfOk result (λ item. IsReadable item) }
 {
-    canonical_text_is_prepared_again();
-    canonical_text_is_text();
+    settled_text_is_read();
     let item = prepare(alloc, text)?;
-    know_error(&item);
+    know_item(&item);
     Ok(item)
-}
-
-/// The error of an item is a text.
-fn know_error(item: &Item)
-    ensures { (error : _) → item.now ≡ Fail error → is_text error ≡ true }
-{
-    if let Item::Fail(error) = item {
-        let _bytes = error.bytes();
-    }
 }

@@ -1,4 +1,4 @@
-use rq_engine::{Answer, Say};
+use rq_request::{Answer, Say};
 use rq_script::{
     ScriptLine, script_line, write_all_pending, write_answers, write_down, write_show_down,
 };

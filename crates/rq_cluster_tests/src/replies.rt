@@ -1,4 +1,5 @@
-use rq_engine::{Res, Say};
+use rq_request::Say;
+use rq_statement::Res;
 use rq_json::{statements_of, write_body};
 use rq_values::{Seq, Text, Value};
 use std::alloc::Global;

@@ -10,12 +10,13 @@ use Rattle.rq_values.specs.Reading.{◌>>=◌, made, checked, u8_at, kind_at, te
 use Rattle.rq_values.proofs.Local.{bind_ok, eq_true, is_eq}
 use Rattle.rq_values.specs.Exact.{AreProper, IsExact, IsKind, IsNamed}
 use Rattle.rq_values.proofs.Exact.{exact_bind, exact_made, exact_same, exact_checked, exact_u8, exact_kind, exact_text, exact_list}
-use Rattle.rq_engine.specs.declared.item.Item.{Item}
-use Rattle.rq_engine.specs.declared.item.Item.TheVariants.{Run, Fail}
-use Rattle.rq_engine.specs.Canonical.{canonical}
-use Rattle.rq_engine.specs.Command.{item_bytes, execute_bytes}
+use Rattle.rq_statement.specs.declared.item.Item.{Item}
+use Rattle.rq_statement.specs.declared.item.Item.TheVariants.{Run, Fail}
+use Rattle.rq_print.specs.Text.{text_of}
+use Rattle.rq_statement.specs.Bytes.{item_bytes}
+use Rattle.rq_engine.specs.Command.{execute_bytes}
 use Rattle.rq_command.specs.Reading.{is_run_text, run_at, item_at, byte_at, command_at}
-use Rattle.rq_command.specs.Stored.{text_of}
+use Rattle.rq_statement.specs.Items.{item_text}
 
 same_bytes : (a b : List ℕ) → bytes_eq a b ≡ true → a ≡ b
 same_bytes a b h = (bytes_eq-Decides a b).0 h
@@ -31,12 +32,12 @@ rank_of (Run statement) = 0
 rank_of (Fail error) = 1
 
 spelled_text : Item → List ℕ
-spelled_text item = sized (text_of item)
+spelled_text item = sized (item_text item)
 
 module _ (item_of : List ℕ → Item) (limit : ℕ) where
   -- an item that this function gives for its text
   abbrev pub IsGiven : Item → Type 0
-  IsGiven (Run statement) = IsNamed is_text limit (canonical statement) × (item_of (canonical statement) ≡ Run statement)
+  IsGiven (Run statement) = IsNamed is_text limit (text_of statement) × (item_of (text_of statement) ≡ Run statement)
   IsGiven (Fail error) = IsNamed is_text limit error
 
   abbrev OfKind : ℕ → Item → Type 0
@@ -46,33 +47,33 @@ module _ (item_of : List ℕ → Item) (limit : ℕ) where
   abbrev IsRunText : List ℕ → Type 0
   IsRunText text = IsNamed is_text limit text × (is_run_text text (item_of text) ≡ true)
 
-  run_there : (item : Item) → OfKind 0 item → IsRunText (text_of item) × (item_of (text_of item) ≡ item)
+  run_there : (item : Item) → OfKind 0 item → IsRunText (item_text item) × (item_of (item_text item) ≡ item)
   unfolding rank_of
-  run_there (Run statement) p = ((p.1.0, ap (is_run_text (canonical statement)) p.1.1 ∙ itself (canonical statement)), p.1.1)
+  run_there (Run statement) p = ((p.1.0, ap (is_run_text (text_of statement)) p.1.1 ∙ itself (text_of statement)), p.1.1)
   run_there (Fail error) p = absurd (omega (arith, p.0))
 
-  run_given : (text : List ℕ) (item : Item) → item_of text ≡ item → IsNamed is_text limit text → is_run_text text item ≡ true → OfKind 0 item × (text_of item ≡ text)
+  run_given : (text : List ℕ) (item : Item) → item_of text ≡ item → IsNamed is_text limit text → is_run_text text item ≡ true → OfKind 0 item × (item_text item ≡ text)
   unfolding rank_of
   run_given text (Run statement) is named runs =
-      let same : canonical statement ≡ text = same_bytes (canonical statement) text runs in
+      let same : text_of statement ≡ text = same_bytes (text_of statement) text runs in
       ((refl, (subst (IsNamed is_text limit) (sym same) named, ap item_of same ∙ is)), same)
   run_given text (Fail error) is named runs = absurd (cc)
 
   exact_run : IsExact (run_at item_of limit) spelled_text (OfKind 0)
   unfolding run_at spelled_text
   exact_run =
-      exact_made (checked (text_at limit) (λ text. is_run_text text (item_of text)) (λ left _. Text left)) sized IsRunText item_of text_of (OfKind 0)
+      exact_made (checked (text_at limit) (λ text. is_run_text text (item_of text)) (λ left _. Text left)) sized IsRunText item_of item_text (OfKind 0)
       (exact_checked (text_at limit) sized (IsNamed is_text limit) (λ text. is_run_text text (item_of text)) (λ left _. Text left) (exact_text limit))
       run_there (λ text p. run_given text (item_of text) refl p.0 p.1)
 
-  fail_there : (item : Item) → OfKind 1 item → IsNamed is_text limit (text_of item) × (Fail (text_of item) ≡ item)
+  fail_there : (item : Item) → OfKind 1 item → IsNamed is_text limit (item_text item) × (Fail (item_text item) ≡ item)
   unfolding rank_of
   fail_there (Run statement) p = absurd (omega (arith, p.0))
   fail_there (Fail error) p = (p.1, refl)
 
   exact_fail : IsExact (made (text_at limit) Fail) spelled_text (OfKind 1)
   unfolding rank_of spelled_text
-  exact_fail = exact_made (text_at limit) sized (IsNamed is_text limit) Fail text_of (OfKind 1) (exact_text limit) fail_there (λ text proper. ((refl, proper), refl))
+  exact_fail = exact_made (text_at limit) sized (IsNamed is_text limit) Fail item_text (OfKind 1) (exact_text limit) fail_there (λ text proper. ((refl, proper), refl))
 
   content_at : ℕ → List ℕ → Result (Item × List ℕ) DecodeError
   content_at kind bytes = cond (kind == 0) (run_at item_of limit bytes) (made (text_at limit) Fail bytes)

@@ -1,3 +1,4 @@
 pub mod Exact
 pub mod Loop
+pub mod Statements
 pub mod Told

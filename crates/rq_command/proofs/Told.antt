@@ -12,24 +12,31 @@ use Rattle.rq_values.specs.Reading.{Fails}
 use Rattle.rq_values.specs.Text.{is_text}
 use Rattle.rq_values.specs.Spelling.{u32_bytes}
 use Rattle.rq_values.specs.Exact.{AreBytes, AreProper, IsNamed}
-use Rattle.rq_engine.specs.declared.item.Item.{Item}
-use Rattle.rq_engine.specs.declared.item.Item.TheVariants.{Run, Fail}
-use Rattle.rq_engine.specs.Canonical.{canonical}
-use Rattle.rq_engine.specs.Command.{item_bytes, execute_bytes}
-use Rattle.rq_settle.specs.Prepared.{IsPrepared}
+use Rattle.rq_statement.specs.declared.item.Item.{Item}
+use Rattle.rq_statement.specs.declared.item.Item.TheVariants.{Run, Fail}
+use Rattle.rq_print.specs.Text.{text_of}
+use Rattle.rq_statement.specs.Bytes.{item_bytes}
+use Rattle.rq_engine.specs.Command.{execute_bytes}
 use Rattle.rq_values.specs.declared.error.DecodeError.TheVariants as errors
-use Rattle.rq_command.specs.Reading.{IsPreparing, command_at}
+use Rattle.rq_grammar.specs.declared.stmt.Stmt.{Stmt}
+use Rattle.rq_sql.specs.Read.{Means}
+use Rattle.rq_statement.specs.Settled.{IsSettled}
+use Rattle.rq_command.specs.Reading.{IsReadAs, IsPreparing, command_at}
 use Rattle.rq_command.specs.Stored.{IsItem, IsCommand}
 use Rattle.rq_command.specs.Whole.{answer_by, Decodes, Reads}
 use Rattle.rq_command.proofs.Exact.{IsGiven, AreGiven, exact_command}
 
--- each text means an item
+-- each text is read as an item
 abbrev pub SomeItem : Type 0
-SomeItem = (text : List ℕ) → (item : Item) × IsPrepared text item
+SomeItem = (text : List ℕ) → (item : Item) × IsReadAs text item
 
--- each text means at most one item
+-- each text is read as at most one item
 abbrev pub OneItem : Type 0
-OneItem = (text : List ℕ) (item other : Item) → IsPrepared text item → IsPrepared text other → item ≡ other
+OneItem = (text : List ℕ) (item other : Item) → IsReadAs text item → IsReadAs text other → item ≡ other
+
+-- a settled statement is what its canonical text means
+abbrev pub Again : Type 0
+Again = (statement : Stmt) → IsSettled statement → Means (text_of statement) (Ok statement)
 
 -- what a call returned, by each function that gives the item that a text means
 abbrev pub IsAnswerByEach : ℕ → List ℕ → Result (List Item) DecodeError → Type 0
@@ -63,8 +70,11 @@ module _ (some : SomeItem) (limit : ℕ) (bytes : List ℕ) where
 
 -- ---- from items that a function gives to items that are stored, and back
 
+read_as_given : (item_of : List ℕ → Item) → IsPreparing item_of → (statement : Stmt) → item_of (text_of statement) ≡ Run statement → IsReadAs (text_of statement) (Run statement)
+read_as_given item_of prepares statement is = subst (λ (i : Item). IsReadAs (text_of statement) i) is (prepares (text_of statement))
+
 stored_item : (item_of : List ℕ → Item) → IsPreparing item_of → (limit : ℕ) (item : Item) → IsGiven item_of limit item → IsItem limit item
-stored_item item_of prepares limit (Run statement) p = record { short = p.0.0.0; text = p.0.1; stored = subst (λ (i : Item). IsPrepared (canonical statement) i) p.1 (prepares (canonical statement)) }
+stored_item item_of prepares limit (Run statement) p = record { short = p.0.0.0; text = p.0.1; stored = (read_as_given item_of prepares statement p.1).1 }
 stored_item item_of prepares limit (Fail error) p = record { short = p.0.0; text = p.1; stored = tt }
 
 stored_items : (item_of : List ℕ → Item) → IsPreparing item_of → (limit : ℕ) (items : List Item) → AreProper (IsGiven item_of limit) items → AreProper (IsItem limit) items
@@ -82,18 +92,18 @@ last_bytes (byte ∷ a) b h = last_bytes a b h.1
 named : (limit : ℕ) (text : List ℕ) → limit < 2 ^ 32 → length text ≤ limit → is_text text ≡ true → AreBytes text → IsNamed is_text limit text
 named limit text small short is all = ((short, omega (arith, small, short), all), is)
 
-given_item : OneItem → (item_of : List ℕ → Item) → IsPreparing item_of → (limit : ℕ) → limit < 2 ^ 32 → (item : Item) → IsItem limit item → AreBytes (item_bytes item) → IsGiven item_of limit item
-given_item one item_of prepares limit small (Run statement) p all = (
-  named limit (canonical statement) small p.short p.text (last_bytes (u32_bytes (length (canonical statement))) (canonical statement) all.1),
-  one (canonical statement) (item_of (canonical statement)) (Run statement) (prepares (canonical statement)) p.stored,
+given_item : OneItem → Again → (item_of : List ℕ → Item) → IsPreparing item_of → (limit : ℕ) → limit < 2 ^ 32 → (item : Item) → IsItem limit item → AreBytes (item_bytes item) → IsGiven item_of limit item
+given_item one again item_of prepares limit small (Run statement) p all = (
+  named limit (text_of statement) small p.short p.text (last_bytes (u32_bytes (length (text_of statement))) (text_of statement) all.1),
+  one (text_of statement) (item_of (text_of statement)) (Run statement) (prepares (text_of statement)) (again statement p.stored, p.stored),
 )
-given_item one item_of prepares limit small (Fail error) p all = named limit error small p.short p.text (last_bytes (u32_bytes (length error)) error all.1)
+given_item one again item_of prepares limit small (Fail error) p all = named limit error small p.short p.text (last_bytes (u32_bytes (length error)) error all.1)
 
-given_items : OneItem → (item_of : List ℕ → Item) → IsPreparing item_of → (limit : ℕ) → limit < 2 ^ 32 → (items : List Item) → AreProper (IsItem limit) items → AreBytes (flat_map item_bytes items) → AreProper (IsGiven item_of limit) items
-given_items one item_of prepares limit small [] p all = tt
-given_items one item_of prepares limit small (item ∷ items) p all = (
-  given_item one item_of prepares limit small item p.0 (first_bytes (item_bytes item) (flat_map item_bytes items) all),
-  given_items one item_of prepares limit small items p.1 (last_bytes (item_bytes item) (flat_map item_bytes items) all),
+given_items : OneItem → Again → (item_of : List ℕ → Item) → IsPreparing item_of → (limit : ℕ) → limit < 2 ^ 32 → (items : List Item) → AreProper (IsItem limit) items → AreBytes (flat_map item_bytes items) → AreProper (IsGiven item_of limit) items
+given_items one again item_of prepares limit small [] p all = tt
+given_items one again item_of prepares limit small (item ∷ items) p all = (
+  given_item one again item_of prepares limit small item p.0 (first_bytes (item_bytes item) (flat_map item_bytes items) all),
+  given_items one again item_of prepares limit small items p.1 (last_bytes (item_bytes item) (flat_map item_bytes items) all),
 )
 
 -- ---- what an Ok tells, and where it comes
@@ -132,7 +142,7 @@ module _ (some : SomeItem) (limit : ℕ) (bytes : List ℕ) (all : AreBytes byte
   taken (Ok items) h = taken_ok items h
   taken (Err e) h = tt
 
-  module _ (one : OneItem) (small : limit < 2 ^ 32) where
+  module _ (one : OneItem) (again : Again) (small : limit < 2 ^ 32) where
     answered : (result answer : Result (List Item) DecodeError) (items : List Item) → answer ≡ Ok items → IsAnswer result answer → (result ≡ Ok items) ⊎ (result ≡ Err errors.NoMemory)
     answered (Ok found) answer items is h = inl (h ∙ is)
     answered (Err (errors.Short place)) answer items is h = inl (h ∙ is)
@@ -150,6 +160,6 @@ module _ (some : SomeItem) (limit : ℕ) (bytes : List ℕ) (all : AreBytes byte
         let item_of = given some limit bytes in
         let prepares = given_prepares some limit bytes in
         let spelled = subst AreBytes is all in
-        let proper : AreGiven item_of limit items = (command.count, given_items one item_of prepares limit small items command.items_are (last_bytes (u32_bytes (length items)) (flat_map item_bytes items) spelled.1.1)) in
+        let proper : AreGiven item_of limit items = (command.count, given_items one again item_of prepares limit small items command.items_are (last_bytes (u32_bytes (length items)) (flat_map item_bytes items) spelled.1.1)) in
         let read = ap (command_at item_of limit) (is ∙ sym (append-nil (execute_bytes items))) ∙ (exact_command item_of limit).reads items [] proper in
         answered result (answer_by item_of limit bytes) items (ap (whole_answer (length bytes)) read) (h item_of prepares)

@@ -1,23 +1,35 @@
 -- Reading a command from the front of some bytes, as docs/FORMATS.md, "Bytes", has it.
-use Rattle.std.specs.Prelude.{ℕ, ◌==◌, Bool, false, List, Result, bytes_eq, if◌then◌else◌}
+use Rattle.std.specs.Prelude.{ℕ, ◌≡◌, ◌==◌, Bool, false, List, [], Result, Ok, bytes_eq, if◌then◌else◌}
 use Rattle.rq_values.specs.declared.error.DecodeError.{DecodeError}
 use Rattle.rq_values.specs.declared.error.DecodeError.TheVariants.{Kind, Text}
 use Rattle.rq_values.specs.Reading.{◌>>=◌, made, checked, u8_at, kind_at, text_at, list_at}
-use Rattle.rq_engine.specs.declared.item.Item.{Item}
-use Rattle.rq_engine.specs.declared.item.Item.TheVariants.{Run, Fail}
-use Rattle.rq_engine.specs.Canonical.{canonical}
-use Rattle.rq_settle.specs.Prepared.{IsPrepared}
+use Rattle.rq_statement.specs.declared.item.Item.{Item}
+use Rattle.rq_statement.specs.declared.item.Item.TheVariants.{Run, Fail}
+use Rattle.rq_grammar.specs.declared.stmt.Stmt.{Stmt}
+use Rattle.rq_print.specs.Text.{text_of}
+use Rattle.rq_sql.specs.Read.{Means}
+use Rattle.rq_statement.specs.Settled.{IsSettled}
 
--- the item that each text means; each text means one (rq_settle, `each_text_is_prepared`)
+-- a text is read as the settled statement that it means; where there is none, as the error without a text
+abbrev pub IsReadAs : List ℕ → Item → Type 0
+IsReadAs text (Run statement) = Means text (Ok statement) × IsSettled statement
+IsReadAs text (Fail error) = (error ≡ []) × ((statement : Stmt) → Means text (Ok statement) → IsSettled statement → ⊥)
+
+-- what each text is read as; each is read as one item (`each_text_is_read_as_one`)
 abbrev pub IsPreparing : (List ℕ → Item) → Type 0
-IsPreparing item_of = (text : List ℕ) → IsPrepared text (item_of text)
+IsPreparing item_of = (text : List ℕ) → IsReadAs text (item_of text)
 
--- the item is a statement that runs, and the text is its canonical text
+-- what a statement is read as
+abbrev pub IsItemOf : Stmt → Item → Type 0
+IsItemOf statement (Run settled) = (settled ≡ statement) × IsSettled statement
+IsItemOf statement (Fail error) = (error ≡ []) × (IsSettled statement → ⊥)
+
+-- the item is a statement, and the text is its canonical text
 abbrev pub is_run_text : List ℕ → Item → Bool
-is_run_text text (Run statement) = bytes_eq (canonical statement) text
+is_run_text text (Run statement) = bytes_eq (text_of statement) text
 is_run_text text (Fail error) = false
 
--- A statement that runs, by its canonical text. Another text is the wrong field.
+-- A settled statement, by its canonical text. Another text is the wrong field.
 unfoldable pub run_at : (List ℕ → Item) → ℕ → List ℕ → Result (Item × List ℕ) DecodeError
 run_at item_of limit = made (checked (text_at limit) (λ text. is_run_text text (item_of text)) (λ left _. Text left)) item_of
 

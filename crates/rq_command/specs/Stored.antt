@@ -2,25 +2,24 @@
 use Rattle.std.specs.Prelude.{◌≡◌, ◌≤◌, ◌<◌, ◌^◌, ℕ, true, List, length}
 use Rattle.rq_values.specs.Text.{is_text}
 use Rattle.rq_values.specs.Exact.{AreProper}
-use Rattle.rq_engine.specs.declared.item.Item.{Item}
-use Rattle.rq_engine.specs.declared.item.Item.TheVariants.{Run, Fail}
-use Rattle.rq_engine.specs.Canonical.{canonical}
-use Rattle.rq_settle.specs.Prepared.{IsPrepared}
+use Rattle.rq_statement.specs.declared.item.Item.{Item}
+use Rattle.rq_statement.specs.declared.item.Item.TheVariants.{Run, Fail}
+use Rattle.rq_statement.specs.Settled.{IsSettled}
+use Rattle.rq_statement.specs.Items.{item_text}
 
 -- the text that stands for an item
 abbrev pub text_of : Item → List ℕ
-text_of (Run statement) = canonical statement
-text_of (Fail error) = error
+text_of item = item_text item
 
--- a statement is what its canonical text means
+-- a statement is settled, and so is what its canonical text means
 abbrev pub IsStored : Item → Type 0
-IsStored (Run statement) = IsPrepared (canonical statement) (Run statement)
+IsStored (Run statement) = IsSettled statement
 IsStored (Fail error) = Unit {0}
 
 -- an item whose text is one within the limit
 pub record IsItem (limit : ℕ) (item : Item) : Type 0 where
-  pub short : length (text_of item) ≤ limit
-  pub text : is_text (text_of item) ≡ true
+  pub short : length (item_text item) ≤ limit
+  pub text : is_text (item_text item) ≡ true
   pub stored : IsStored item
 
 -- a list of items that a command can hold

@@ -4,7 +4,7 @@ use Rattle.std.specs.Bool.{OnFalse}
 use Rattle.rq_values.specs.declared.error.DecodeError.{DecodeError}
 use Rattle.rq_values.specs.Fault.{is_want_of_memory}
 use Rattle.rq_values.specs.Place.{answer_of}
-use Rattle.rq_engine.specs.declared.item.Item.{Item}
+use Rattle.rq_statement.specs.declared.item.Item.{Item}
 use Rattle.rq_command.specs.Reading.{IsPreparing, command_at}
 
 -- what the whole input says, where each text means the item that this function gives

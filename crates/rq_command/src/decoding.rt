@@ -2,7 +2,7 @@
 ghost use Rattle.std.specs.Prelude.{◌≡◌, ◌⊎◌, ℕ, List, IfOk};
 ghost use Rattle.rq_values.specs.Place.{IsAnswer};
 ghost use Rattle.rq_values.specs.Reading.{Gives, NeedsNoMemory, many_at};
-ghost use Rattle.rq_engine.specs.declared.item.Item.{Item};
+ghost use Rattle.rq_statement.specs.declared.item.Item.{Item};
 ghost use Rattle.rq_engine.specs.Command.{execute_bytes};
 ghost use Rattle.rq_values.specs.declared.error.DecodeError.TheVariants as errors;
 ghost use Rattle.rq_command.specs.Reading as spec;
@@ -10,34 +10,32 @@ ghost use Rattle.rq_command.specs.Reading.{IsPreparing, run_at, item_at, byte_at
 ghost use Rattle.rq_command.specs.Stored.{IsCommand};
 ghost use Rattle.rq_command.specs.Whole.{Reads, answer_by};
 
-use rq_engine::{Item, print};
-use rq_settle::{each_text_is_prepared, prepare};
+use crate::laws::each_text_is_read_as_one;
+use crate::texts::read_text;
+use rq_canonical::settled_text_is_read;
+use rq_statement::Item;
 use rq_values::{DecodeError, MAX_COMMAND, NoMemory, Seq, next_kind, next_text, next_u8, next_u32};
 use std::alloc::Global;
 
-/// Whether the item runs, and the text is its statement's canonical text.
-fn is_run_text(alloc: Global, text: &[u8], item: &Item) -> Result<bool, NoMemory>
-    ensures { IfOk result (λ is. is ≡ spec.is_run_text text.now item.now) }
+/// Whether the item is a statement, and the text is its canonical text.
+fn is_run_text(text: &[u8], item: &Item) -> bool
+    ensures { result ≡ spec.is_run_text text.now item.now }
 {
     match item {
-        Item::Fail(_) => Ok(false),
-        Item::Run(statement) => {
-            let mut canonical = Vec::new(alloc);
-            print(statement, &mut canonical)?;
-            Ok(canonical.as_slice() == text)
-        }
+        Item::Run(settled) => settled.text() == text,
+        Item::Fail(_) => false,
     }
 }
 
-/// A statement that runs, by its canonical text.
+/// A settled statement, by its canonical text.
 #[tactic(auto, unfolding(crate::specs::Reading::run_at))]
 fn next_run(alloc: Global, limit: u32, bytes: &[u8]) -> Result<(Item, &[u8]), DecodeError>
     ensures { (item_of : List ℕ → Item) → IsPreparing item_of → Gives (λ x. (x.0, x.1.now)) result (run_at item_of limit bytes.now) }
 {
-    each_text_is_prepared();
+    each_text_is_read_as_one();
     let (text, rest) = next_text(alloc, limit, bytes)?;
-    let item = prepare(alloc, text.bytes())?;
-    if is_run_text(alloc, text.bytes(), &item)? {
+    let item = read_text(alloc, text.bytes())?;
+    if is_run_text(text.bytes(), &item) {
         Ok((item, rest))
     } else {
         Err(DecodeError::Text(bytes.len()))
@@ -118,13 +116,14 @@ fn decode_whole(alloc: Global, limit: u32, bytes: &[u8]) -> Result<Seq<Item>, De
     }
 }
 
-/// The items of the command Execute that is the whole input. Each text of a statement must be the canonical text of one that runs.
+/// The items of the command Execute that is the whole input. Each text of a statement must be the canonical text of a settled one.
 #[tactic(auto, using(crate::proofs::Told::told))]
 pub fn decode_execute(alloc: Global, bytes: &[u8]) -> Result<Seq<Item>, DecodeError>
     ensures answer { Reads MAX_COMMAND bytes.now result }
     ensures ok { IfOk result (λ items. (bytes.now ≡ execute_bytes items) × IsCommand MAX_COMMAND items) }
     ensures complete { (items : List Item) → bytes.now ≡ execute_bytes items → IsCommand MAX_COMMAND items → (result ≡ Ok items) ⊎ (result ≡ Err errors.NoMemory) }
 {
-    each_text_is_prepared();
+    each_text_is_read_as_one();
+    settled_text_is_read();
     decode_whole(alloc, MAX_COMMAND, bytes)
 }

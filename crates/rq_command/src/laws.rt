@@ -1,8 +1,20 @@
-//! The law of what commands say: the contract of a function that does no work.
+//! The laws of what commands say: contracts of functions that do no work.
 ghost use Rattle.std.specs.Prelude.{◌≡◌, ℕ, List};
+ghost use Rattle.rq_command.specs.Reading.{IsReadAs};
 ghost use Rattle.rq_command.specs.Whole.{Decodes};
 
-use rq_settle::each_text_is_prepared;
+use rq_canonical::what_is_read_is_proper;
+use rq_sql::each_text_has_one_answer;
+
+/// Each text is read as one item.
+#[tactic(auto, using(crate::proofs::Statements::some_item, crate::proofs::Statements::one_item))]
+pub fn each_text_is_read_as_one()
+    ensures some { (text : List ℕ) → (item : _) × IsReadAs text item }
+    ensures one { (text : List ℕ) (item other : _) → IsReadAs text item → IsReadAs text other → item ≡ other }
+{
+    each_text_has_one_answer();
+    what_is_read_is_proper();
+}
 
 /// Each input has one answer.
 #[tactic(auto, using(crate::proofs::Told::some_answer, crate::proofs::Told::one_answer))]
@@ -10,5 +22,5 @@ pub fn each_command_has_one_answer()
     ensures some { (limit : ℕ) (bytes : List ℕ) → (answer : _) × Decodes limit bytes answer }
     ensures one { (limit : ℕ) (bytes : List ℕ) (answer other : _) → Decodes limit bytes answer → Decodes limit bytes other → answer ≡ other }
 {
-    each_text_is_prepared();
+    each_text_is_read_as_one();
 }

@@ -3,6 +3,7 @@
 
 mod decoding;
 mod laws;
+mod texts;
 
 pub use decoding::decode_execute;
-pub use laws::each_command_has_one_answer;
+pub use laws::{each_command_has_one_answer, each_text_is_read_as_one};

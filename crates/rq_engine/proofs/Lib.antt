@@ -1,4 +1,3 @@
-pub mod Appending
 pub mod SizeLemmas
 pub mod Statements
 pub mod Texts

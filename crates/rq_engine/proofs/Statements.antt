@@ -6,10 +6,10 @@ use Rattle.std.specs.BTreeMap.{is_at}
 use Rattle.std.specs.Ordering.{int_cmp}
 use Rattle.std.proofs.lemmas.Bool.Decides.{nat_tests}
 use Rattle.rq_values.specs.declared.value.Value.{Value}
-use Rattle.rq_engine.specs.declared.statement.Column.{Column}
+use Rattle.rq_grammar.specs.declared.stmt.ColumnDef.{ColumnDef}
 use Rattle.rq_engine.specs.declared.inserting.Target.{Target}
-use Rattle.rq_engine.specs.declared.command.Res.{Res}
-use Rattle.rq_engine.specs.declared.command.Res.TheVariants as res
+use Rattle.rq_statement.specs.declared.res.Res.{Res}
+use Rattle.rq_statement.specs.declared.res.Res.TheVariants as res
 use Rattle.rq_engine.specs.Database.{lower, name_cmp, Row, Table, Database, table_of, with_table, with_changed, row_size, table_size, empty_size, tables_size, size_limit}
 use Rattle.rq_engine.specs.Meaning.{Outcome, not_built, no_such_table, already_exists, then_with, needed, has_row, cells, row_at, row_of, new_row, targets_of, within_limit, with_row, inserted, created, is_refused}
 use Rattle.rq_engine.specs.Running.{Gives}
@@ -85,31 +85,31 @@ inserted_size db name names vs t r there new = size-with_changed name t r db the
 
 -- ---- CREATE TABLE
 
-abbrev empty_table : List ℕ → List Column → Table
+abbrev empty_table : List ℕ → List ColumnDef → Table
 empty_table name cs = record { name = name; columns = cs; rows = [] }
 
-abbrev rest : Database → List ℕ → List Column → Bool → Bool → Outcome (Database × Res)
+abbrev rest : Database → List ℕ → List ColumnDef → Bool → Bool → Outcome (Database × Res)
 rest db name cs there refused =
     if there then Err (already_exists name)
     else if refused then Err not_built
     else within_limit (with_table name (empty_table name cs) db, res.Done (pos 0) 0)
 
-pub created_there : (db : Database) (name : List ℕ) (cs : List Column) → is_some (table_of name db) ≡ true → created db name cs ≡ Err (already_exists name)
+pub created_there : (db : Database) (name : List ℕ) (cs : List ColumnDef) → is_some (table_of name db) ≡ true → created db name cs ≡ Err (already_exists name)
 created_there db name cs there = ap (λ b. rest db name cs b (is_refused name cs)) there
 
-pub created_refused : (db : Database) (name : List ℕ) (cs : List Column) → is_some (table_of name db) ≡ false → is_refused name cs ≡ true → created db name cs ≡ Err not_built
+pub created_refused : (db : Database) (name : List ℕ) (cs : List ColumnDef) → is_some (table_of name db) ≡ false → is_refused name cs ≡ true → created db name cs ≡ Err not_built
 created_refused db name cs none refused = ap (λ b. rest db name cs b (is_refused name cs)) none ∙ ap (λ b. rest db name cs false b) refused
 
-created_new : (db : Database) (name : List ℕ) (cs : List Column) → is_some (table_of name db) ≡ false → is_refused name cs ≡ false → created db name cs ≡ within_limit (with_table name (empty_table name cs) db, res.Done (pos 0) 0)
+created_new : (db : Database) (name : List ℕ) (cs : List ColumnDef) → is_some (table_of name db) ≡ false → is_refused name cs ≡ false → created db name cs ≡ within_limit (with_table name (empty_table name cs) db, res.Done (pos 0) 0)
 created_new db name cs none allowed = ap (λ b. rest db name cs b (is_refused name cs)) none ∙ ap (λ b. rest db name cs false b) allowed
 
-pub created_size : (db : Database) (name : List ℕ) (cs : List Column) → is_some (table_of name db) ≡ false → tables_size (with_table name (record { name = name; columns = cs; rows = [] }) db) ≡ tables_size db + empty_size name cs
+pub created_size : (db : Database) (name : List ℕ) (cs : List ColumnDef) → is_some (table_of name db) ≡ false → tables_size (with_table name (record { name = name; columns = cs; rows = [] }) db) ≡ tables_size db + empty_size name cs
 created_size db name cs none = let e = size-with_table name (empty_table name cs) db (none_from_test _ none) in omega (arith, e)
 
-pub created_full : (db : Database) (name : List ℕ) (cs : List Column) → is_some (table_of name db) ≡ false → is_refused name cs ≡ false → (tables_size db + empty_size name cs ≤ size_limit → ⊥) → created db name cs ≡ Err not_built
+pub created_full : (db : Database) (name : List ℕ) (cs : List ColumnDef) → is_some (table_of name db) ≡ false → is_refused name cs ≡ false → (tables_size db + empty_size name cs ≤ size_limit → ⊥) → created db name cs ≡ Err not_built
 created_full db name cs none allowed over = created_new db name cs none allowed ∙ full _ _ _ _ (created_size db name cs none) over
 
-pub created_is : (db : Database) (name : List ℕ) (cs : List Column) → is_some (table_of name db) ≡ false → is_refused name cs ≡ false → tables_size db + empty_size name cs ≤ size_limit → created db name cs ≡ Ok (with_table name (record { name = name; columns = cs; rows = [] }) db, res.Done (pos 0) 0)
+pub created_is : (db : Database) (name : List ℕ) (cs : List ColumnDef) → is_some (table_of name db) ≡ false → is_refused name cs ≡ false → tables_size db + empty_size name cs ≤ size_limit → created db name cs ≡ Ok (with_table name (record { name = name; columns = cs; rows = [] }) db, res.Done (pos 0) 0)
 created_is db name cs none allowed within = created_new db name cs none allowed ∙ kept _ _ _ _ (created_size db name cs none) within
 
 -- ---- failures

@@ -10,9 +10,9 @@ use Rattle.std.specs.declared.cmp.Ordering.{Ordering}
 use Rattle.std.specs.Cmp.Lexicographic.{slice_cmp}
 use Rattle.rq_values.specs.declared.value.Value.{Value}
 use Rattle.rq_values.specs.declared.value.Value.TheVariants.{Null, Int, Text, Blob}
-use Rattle.rq_engine.specs.declared.statement.ColumnKind.{ColumnKind}
-use Rattle.rq_engine.specs.declared.statement.ColumnKind.TheVariants as kind
-use Rattle.rq_engine.specs.declared.statement.Column.{Column}
+use Rattle.rq_grammar.specs.declared.stmt.ColumnKind.{ColumnKind}
+use Rattle.rq_grammar.specs.declared.stmt.ColumnKind.TheVariants as kind
+use Rattle.rq_grammar.specs.declared.stmt.ColumnDef.{ColumnDef}
 
 -- names that are alike in ASCII lower case are one name
 abbrev pub lower : List ℕ → List ℕ
@@ -31,7 +31,7 @@ Row = ℤ × List Value
 -- a table's name and columns as declared, and its rows in rising rowid
 pub record Table : Type 0 where
   pub name : List ℕ
-  pub columns : List Column
+  pub columns : List ColumnDef
   pub rows : List Row
 
 -- each table under its name in lower case, in rising order of these
@@ -52,9 +52,10 @@ with_changed name t db = set_value (is_at (name_cmp (lower name))) db t
 abbrev pub is_integer : ColumnKind → Bool
 is_integer kind.Integer = true
 is_integer kind.Text = false
+is_integer kind.Blob = false
 
 -- an INTEGER column that is the PRIMARY KEY is the rowid
-abbrev pub is_rowid : Column → Bool
+abbrev pub is_rowid : ColumnDef → Bool
 is_rowid c = is_integer c.kind && c.primary
 
 -- ---- how many bytes the tables take where they are spelled: names and texts with their length in four bytes, a kind byte and
@@ -66,22 +67,22 @@ value_size (Int number) = 9
 value_size (Text text) = 5 + length text
 value_size (Blob bytes) = 5 + length bytes
 
-abbrev pub cell_size : Column → Value → ℕ
+abbrev pub cell_size : ColumnDef → Value → ℕ
 cell_size c v = if is_rowid c then 0 else value_size v
 
-abbrev pub cells_size : List Column → List Value → ℕ
+abbrev pub cells_size : List ColumnDef → List Value → ℕ
 cells_size [] vs = 0
 cells_size (c ∷ cs) [] = 0
 cells_size (c ∷ cs) (v ∷ vs) = cell_size c v + cells_size cs vs
 
-abbrev pub row_size : List Column → List Value → ℕ
+abbrev pub row_size : List ColumnDef → List Value → ℕ
 row_size cs vs = 8 + cells_size cs vs
 
-abbrev pub columns_size : List Column → ℕ
+abbrev pub columns_size : List ColumnDef → ℕ
 columns_size [] = 0
 columns_size (c ∷ cs) = (6 + length c.name) + columns_size cs
 
-abbrev pub empty_size : List ℕ → List Column → ℕ
+abbrev pub empty_size : List ℕ → List ColumnDef → ℕ
 empty_size name cs = 16 + length name + columns_size cs
 
 abbrev pub table_size : Table → ℕ

@@ -1,7 +1,7 @@
 -- Meaning: what a statement makes of a database, and what it answers.
 -- Source: SQLite's documentation, "CREATE TABLE", "INSERT", "SELECT", "Datatypes In SQLite"; strict kinds as in its "STRICT Tables".
 pub use Rattle.std.specs.Fmt.{signed_decimal}
-use Rattle.std.specs.Prelude.{ℕ, ◌≡◌, ◌+◌, ◌-◌, ◌*◌, ◌^◌, ◌==◌, ℤ, int_lt, pos, negsuc, ◌+ℤ◌, Bool, true, false, not, ◌&&◌, ◌||◌, if◌then◌else◌, nat_lt, nat_le, List, [], ◌∷◌, ◌++◌, length, map, codes, bytes_eq, slice_get, take, Option, Some, None, is_some, unwrap_or, Result, Ok, Err}
+use Rattle.std.specs.Prelude.{ℕ, ◌≡◌, ◌+◌, ◌-◌, ◌*◌, ◌^◌, ◌==◌, ℤ, int_lt, pos, negsuc, ◌+ℤ◌, Bool, true, false, not, ◌&&◌, ◌||◌, if◌then◌else◌, nat_lt, nat_le, List, [], ◌∷◌, ◌++◌, length, map, codes, bytes_eq, slice_get, take, Option, Some, None, is_some, is_none, unwrap_or, Result, Ok, Err}
 use Rattle.std.specs.Option.{option_map, option_and_then, option_map_or}
 use Rattle.std.specs.List.{list_any, count_by}
 use Rattle.std.specs.Map.{lookup, values_of}
@@ -11,15 +11,22 @@ use Rattle.std.specs.Str.Parse.{signed_digits_value}
 use Rattle.rq_values.specs.declared.value.Value.{Value}
 use Rattle.rq_values.specs.declared.value.Value.TheVariants as value
 use Rattle.rq_values.specs.declared.memory.NoMemory.{NoMemory}
-use Rattle.rq_engine.specs.declared.statement.ColumnKind.{ColumnKind}
-use Rattle.rq_engine.specs.declared.statement.ColumnKind.TheVariants as kind
-use Rattle.rq_engine.specs.declared.statement.Column.{Column}
-use Rattle.rq_engine.specs.declared.statement.Statement.{Statement}
-use Rattle.rq_engine.specs.declared.statement.Statement.TheVariants as statement
-use Rattle.rq_engine.specs.declared.item.Item.{Item}
-use Rattle.rq_engine.specs.declared.item.Item.TheVariants.{Run, Fail}
-use Rattle.rq_engine.specs.declared.command.Res.{Res}
-use Rattle.rq_engine.specs.declared.command.Res.TheVariants as res
+use Rattle.rq_grammar.specs.declared.stmt.ColumnKind.{ColumnKind}
+use Rattle.rq_grammar.specs.declared.stmt.ColumnKind.TheVariants as kind
+use Rattle.rq_grammar.specs.declared.stmt.ColumnDef.{ColumnDef}
+use Rattle.rq_grammar.specs.declared.expr.Expr.{Expr}
+use Rattle.rq_grammar.specs.declared.expr.Expr.TheVariants as expr
+use Rattle.rq_grammar.specs.declared.stmt.ResultItem.{ResultItem}
+use Rattle.rq_grammar.specs.declared.stmt.ResultItem.TheVariants as shown
+use Rattle.rq_grammar.specs.declared.stmt.SelectStmt.{SelectStmt}
+use Rattle.rq_grammar.specs.declared.stmt.InsertRows.{InsertRows}
+use Rattle.rq_grammar.specs.declared.stmt.InsertRows.TheVariants as source
+use Rattle.rq_grammar.specs.declared.stmt.Stmt.{Stmt}
+use Rattle.rq_grammar.specs.declared.stmt.Stmt.TheVariants as stmt
+use Rattle.rq_statement.specs.declared.item.Item.{Item}
+use Rattle.rq_statement.specs.declared.item.Item.TheVariants.{Run, Fail}
+use Rattle.rq_statement.specs.declared.res.Res.{Res}
+use Rattle.rq_statement.specs.declared.res.Res.TheVariants as res
 use Rattle.rq_engine.specs.declared.inserting.Target.{Target}
 use Rattle.rq_engine.specs.declared.inserting.Target.TheVariants as target
 use Rattle.rq_engine.specs.Database.{lower, is_same_name, Row, Table, Database, table_of, with_table, with_changed, is_integer, is_rowid, tables_size, size_limit}
@@ -65,6 +72,7 @@ plain_integer text = if is_plain_integer text then Some (signed_digits_value 10 
 abbrev pub stored_integer : ℤ → ColumnKind → Option Value
 stored_integer number kind.Integer = Some (value.Int number)
 stored_integer number kind.Text = Some (value.Text (signed_decimal number))
+stored_integer number kind.Blob = None
 
 abbrev pub integer_of_text : List ℕ → Option Value
 integer_of_text text = option_map value.Int (plain_integer text)
@@ -72,6 +80,7 @@ integer_of_text text = option_map value.Int (plain_integer text)
 abbrev pub stored_text : List ℕ → ColumnKind → Option Value
 stored_text text kind.Integer = integer_of_text text
 stored_text text kind.Text = Some (value.Text text)
+stored_text text kind.Blob = None
 
 -- a value as a column takes it
 abbrev pub stored : Value → ColumnKind → Option Value
@@ -82,11 +91,11 @@ stored (value.Blob bytes) k = None
 
 -- ---- the names of an INSERT's list
 
-abbrev pub target_at : Column → ℕ → Target
+abbrev pub target_at : ColumnDef → ℕ → Target
 target_at c n = if is_rowid c then target.Rowid else target.Column n
 
 -- what the first column of a name is, the columns counted from n
-abbrev pub column_target : ℕ → List Column → List ℕ → Option Target
+abbrev pub column_target : ℕ → List ColumnDef → List ℕ → Option Target
 column_target n [] name = None
 column_target n (c ∷ cs) name = if is_same_name c.name name then Some (target_at c n) else column_target (n + 1) cs name
 
@@ -95,7 +104,7 @@ abbrev pub rowid_target : Option Target → List ℕ → Option Target
 rowid_target (Some t) name = Some t
 rowid_target None name = if is_same_name name (codes "rowid") then Some target.Rowid else None
 
-abbrev pub target_of : List Column → List ℕ → Option Target
+abbrev pub target_of : List ColumnDef → List ℕ → Option Target
 target_of cs name = rowid_target (column_target 0 cs name) name
 
 abbrev pub is_same_target : Target → Target → Bool
@@ -108,7 +117,7 @@ abbrev pub is_named : Target → List Target → Bool
 is_named t ts = list_any (is_same_target t) ts
 
 -- what each name names, where each names something
-abbrev pub named_by : List Column → List (List ℕ) → Option (List Target)
+abbrev pub named_by : List ColumnDef → List (List ℕ) → Option (List Target)
 named_by cs [] = Some []
 named_by cs (name ∷ names) = option_and_then (λ t. option_map (λ ts. t ∷ ts) (named_by cs names)) (target_of cs name)
 
@@ -121,7 +130,7 @@ abbrev pub if_apart : List Target → Option (List Target)
 if_apart ts = if is_double ts then None else Some ts
 
 -- what the names name, where each names something and none the same as another
-abbrev pub targets_of : List Column → List (List ℕ) → Option (List Target)
+abbrev pub targets_of : List ColumnDef → List (List ℕ) → Option (List Target)
 targets_of cs names = option_and_then if_apart (named_by cs names)
 
 -- the value that is given for a target
@@ -158,15 +167,15 @@ abbrev pub stored_at : ColumnKind → ℕ → List Target → List Value → Opt
 stored_at k n ts vs = stored (unwrap_or (given (target.Column n) ts vs) value.Null) k
 
 -- what the column at place n has in the row
-abbrev pub cell : ℤ → Column → ℕ → List Target → List Value → Option Value
+abbrev pub cell : ℤ → ColumnDef → ℕ → List Target → List Value → Option Value
 cell k c n ts vs = if is_rowid c then Some (value.Int k) else stored_at c.kind n ts vs
 
 -- the values in the columns' order, the columns counted from n; a column that isn't named has NULL, the column that is the rowid shows it
-abbrev pub cells_from : ℤ → ℕ → List Column → List Target → List Value → Option (List Value)
+abbrev pub cells_from : ℤ → ℕ → List ColumnDef → List Target → List Value → Option (List Value)
 cells_from k n [] ts vs = Some []
 cells_from k n (c ∷ cs) ts vs = option_and_then (λ v. option_map (λ row. v ∷ row) (cells_from k (n + 1) cs ts vs)) (cell k c n ts vs)
 
-abbrev pub cells : ℤ → List Column → List Target → List Value → Option (List Value)
+abbrev pub cells : ℤ → List ColumnDef → List Target → List Value → Option (List Value)
 cells k cs ts vs = cells_from k 0 cs ts vs
 
 abbrev pub has_row : List Row → ℤ → Bool
@@ -199,32 +208,26 @@ inserted db name names vs =
     within_limit (with_changed name (with_row t r) db, res.Done r.0 1)))
 
 -- whether a column has the name
-abbrev pub is_among : List ℕ → List Column → Bool
-is_among name cs = list_any (λ (c : Column). is_same_name name c.name) cs
+abbrev pub is_among : List ℕ → List ColumnDef → Bool
+is_among name cs = list_any (λ (c : ColumnDef). is_same_name name c.name) cs
 
 -- whether two columns have one name
-abbrev pub has_twice : List Column → Bool
+abbrev pub has_twice : List ColumnDef → Bool
 has_twice [] = false
 has_twice (c ∷ cs) = is_among c.name cs || has_twice cs
 
-abbrev pub is_text_key : Column → Bool
-is_text_key c = c.primary && not (is_integer c.kind)
-
-abbrev pub has_text_key : List Column → Bool
-has_text_key cs = list_any is_text_key cs
-
-abbrev pub has_two_keys : List Column → Bool
-has_two_keys cs = nat_lt 1 (count_by (λ (c : Column). c.primary) cs)
+abbrev pub has_two_keys : List ColumnDef → Bool
+has_two_keys cs = nat_lt 1 (count_by (λ (c : ColumnDef). c.primary) cs)
 
 -- names that begin with `sqlite_` are reserved
 abbrev pub is_reserved : List ℕ → Bool
 is_reserved name = bytes_eq (lower (take 7 name)) (codes "sqlite_")
 
 -- columns that a table can't have
-abbrev pub is_refused : List ℕ → List Column → Bool
-is_refused name cs = (length cs == 0) || is_reserved name || has_twice cs || has_two_keys cs || has_text_key cs
+abbrev pub is_refused : List ℕ → List ColumnDef → Bool
+is_refused name cs = (length cs == 0) || is_reserved name || has_twice cs || has_two_keys cs
 
-abbrev pub created : Database → List ℕ → List Column → Outcome (Database × Res)
+abbrev pub created : Database → List ℕ → List ColumnDef → Outcome (Database × Res)
 created db name cs =
     if is_some (table_of name db) then Err (already_exists name)
     else if is_refused name cs then Err not_built
@@ -234,23 +237,78 @@ created db name cs =
 abbrev pub kind_name : ColumnKind → List ℕ
 kind_name kind.Integer = codes "integer"
 kind_name kind.Text = codes "text"
+kind_name kind.Blob = codes "blob"
 
-abbrev pub type_text : Column → List ℕ
+abbrev pub type_text : ColumnDef → List ℕ
 type_text c = kind_name c.kind
 
 -- headings and types as declared, and the rows' values
 abbrev pub rows_of : Table → Res
-rows_of t = res.Rows (map (λ (c : Column). c.name) t.columns) (map type_text t.columns) (values_of t.rows)
+rows_of t = res.Rows (map (λ (c : ColumnDef). c.name) t.columns) (map type_text t.columns) (values_of t.rows)
 
 abbrev pub selected : Database → List ℕ → Outcome Res
 selected db name = then_with (needed (no_such_table name) (table_of name db)) (λ t. Ok (rows_of t))
 
 -- ---- items, and lists of them
 
-abbrev pub run : Database → Statement → Outcome (Database × Res)
-run db (statement.Create name cs) = created db name cs
-run db (statement.Insert name names vs) = inserted db name names vs
-run db (statement.SelectAll name) = Err not_built
+-- a column with NOT NULL or UNIQUE, one of blobs, and a text that is the primary key aren't built
+abbrev pub is_built_kind : ColumnKind → Bool → Bool
+is_built_kind kind.Integer primary = true
+is_built_kind kind.Text primary = not primary
+is_built_kind kind.Blob primary = false
+
+abbrev pub is_unbuilt : ColumnDef → Bool
+is_unbuilt c = c.not_null || (c.unique || not (is_built_kind c.kind c.primary))
+
+abbrev pub has_unbuilt : List ColumnDef → Bool
+has_unbuilt cs = list_any is_unbuilt cs
+
+-- an integer or a text
+abbrev pub value_of : Expr → Option Value
+value_of (expr.Literal (value.Int n)) = Some (value.Int n)
+value_of (expr.Literal (value.Text t)) = Some (value.Text t)
+value_of _ = None
+
+-- the value of each, where each has one
+abbrev pub row_values : List Expr → Option (List Value)
+row_values [] = Some []
+row_values (x ∷ xs) = option_and_then (λ y. option_map (λ ys. y ∷ ys) (row_values xs)) (value_of x)
+
+-- one row of values
+abbrev pub one_row : List (List Expr) → Option (List Value)
+one_row (row ∷ []) = row_values row
+one_row _ = None
+
+abbrev pub values_in : InsertRows → Option (List Value)
+values_in (source.Values rs) = one_row rs
+values_in (source.Select q) = None
+
+-- `*` alone
+abbrev pub is_all : List ResultItem → Bool
+is_all (shown.All ∷ []) = true
+is_all _ = false
+
+-- nothing behind the table
+abbrev pub is_bare : SelectStmt → Bool
+is_bare q = is_none q.filter && ((length q.order == 0) && (is_none q.limit && is_none q.offset))
+
+-- the table of `SELECT * FROM table`
+abbrev pub whole_table : SelectStmt → Option (List ℕ)
+whole_table q = if is_all q.results && is_bare q then q.table else None
+
+abbrev pub created_as : Database → Bool → List ℕ → List ColumnDef → Outcome (Database × Res)
+created_as db if_not_exists name cs = if if_not_exists || has_unbuilt cs then Err not_built else created db name cs
+
+abbrev pub inserted_rows : Database → List ℕ → List (List ℕ) → InsertRows → Outcome (Database × Res)
+inserted_rows db name names rs = then_with (needed not_built (values_in rs)) (inserted db name names)
+
+abbrev pub selected_all : Database → SelectStmt → Outcome Res
+selected_all db q = then_with (needed not_built (whole_table q)) (selected db)
+
+abbrev pub run : Database → Stmt → Outcome (Database × Res)
+run db (stmt.Create b name cs) = created_as db b name cs
+run db (stmt.Insert name (Some names) rs) = inserted_rows db name names rs
+run db _ = Err not_built
 
 -- a statement that fails changes nothing
 abbrev pub settled : Database → Outcome (Database × Res) → Database × Res
@@ -262,10 +320,9 @@ abbrev pub means : Database → Item → Database × Res
 means db (Run s) = settled db (run db s)
 means db (Fail e) = (db, res.Error e)
 
-abbrev pub read : Database → Statement → Outcome Res
-read db (statement.Create name cs) = Err not_built
-read db (statement.Insert name names vs) = Err not_built
-read db (statement.SelectAll name) = selected db name
+abbrev pub read : Database → Stmt → Outcome Res
+read db (stmt.Select q) = selected_all db q
+read db _ = Err not_built
 
 abbrev pub as_res : Outcome Res → Res
 as_res (Ok r) = r

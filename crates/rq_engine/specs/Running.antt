@@ -1,8 +1,8 @@
 -- Running: what a function that runs a statement gives.
 use Rattle.std.specs.Prelude.{◌≡◌, List, ℕ, Result, Ok, Err}
 use Rattle.rq_values.specs.declared.memory.NoMemory as values
-use Rattle.rq_engine.specs.declared.command.Res.{Res}
-use Rattle.rq_engine.specs.declared.command.Res.TheVariants as res
+use Rattle.rq_statement.specs.declared.res.Res.{Res}
+use Rattle.rq_statement.specs.declared.res.Res.TheVariants as res
 use Rattle.rq_engine.specs.declared.refusal.Refusal.{Refusal}
 use Rattle.rq_engine.specs.declared.refusal.Refusal.TheVariants.{Says, NoMemory}
 use Rattle.rq_engine.specs.Database.{Database}

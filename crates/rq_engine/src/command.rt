@@ -1,49 +1,10 @@
-//! Commands of the log, and what a statement answers.
+//! Commands of the log.
 ghost use Rattle.std.specs.Prelude.{◌≡◌, ◌++◌, OnOk, OnErr};
 ghost use Rattle.rq_values.specs.Writing.{KeepsFront};
 ghost use Rattle.rq_engine.specs.Command as spec;
 
-use crate::item::Item;
-use crate::printing::print;
-use rq_values::{Encode, NoMemory, Seq, Text, Value, put_bytes, put_list, put_u8};
-
-/// What a statement answers.
-#[derive(Debug, Drop)]
-pub enum Res {
-    /// A write: the rowid of the row that an INSERT put in, else 0, and how many rows changed.
-    Done {
-        last_insert_id: i64,
-        rows_affected: u64,
-    },
-    /// A read: headings, declared types in lower case, and rows.
-    Rows {
-        columns: Seq<Text>,
-        types: Seq<Text>,
-        values: Seq<Seq<Value>>,
-    },
-    Error(Text),
-}
-
-impl Encode for Item {
-    ghost use Rattle.rq_engine.specs.Command.{item_bytes};
-
-    ghost spelled = { item_bytes };
-
-    fn put(&self, into: &mut Vec<u8>) -> Result<(), NoMemory> {
-        match self {
-            Item::Run(statement) => {
-                let mut text = Vec::new(*into.allocator());
-                print(statement, &mut text)?;
-                put_u8(0, into)?;
-                put_bytes(&text, into)
-            }
-            Item::Fail(text) => {
-                put_u8(1, into)?;
-                put_bytes(text.bytes(), into)
-            }
-        }
-    }
-}
+use rq_statement::Item;
+use rq_values::{NoMemory, put_list, put_u8};
 
 /// Adds the command. With no memory a part of it may be there.
 fn put_execute(items: &[Item], into: &mut Vec<u8>) -> Result<(), NoMemory>

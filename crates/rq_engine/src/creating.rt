@@ -3,10 +3,10 @@ ghost use Rattle.std.specs.Prelude.{◌≡◌};
 ghost use Rattle.rq_engine.specs.Meaning as spec;
 
 use crate::inserting::is_same_name;
-use crate::statement::{Column, ColumnKind};
+use rq_grammar::{ColumnDef, ColumnKind};
 
 /// Whether two columns have one name.
-fn has_twice(columns: &[Column]) -> bool
+fn has_twice(columns: &[ColumnDef]) -> bool
     ensures { result ≡ spec.has_twice columns.now }
 {
     for (i, column) in columns.iter().enumerate() {
@@ -18,7 +18,7 @@ fn has_twice(columns: &[Column]) -> bool
 }
 
 /// Whether a column has the name.
-fn is_among(name: &[u8], columns: &[Column]) -> bool
+fn is_among(name: &[u8], columns: &[ColumnDef]) -> bool
     ensures { result ≡ spec.is_among name.now columns.now }
 {
     columns
@@ -36,34 +36,38 @@ fn is_reserved(name: &[u8]) -> bool
     is_same_name(&name[..7], b"sqlite_")
 }
 
-fn has_two_keys(columns: &[Column]) -> bool
+fn has_two_keys(columns: &[ColumnDef]) -> bool
     ensures { result ≡ spec.has_two_keys columns.now }
 {
     columns.iter().filter(|column| column.primary).count() > 1
 }
 
-fn is_text_key(column: &Column) -> bool
-    ensures { result ≡ spec.is_text_key column.now }
+fn is_built_kind(kind: ColumnKind, primary: bool) -> bool
+    ensures { result ≡ spec.is_built_kind kind primary }
 {
-    match column.kind {
-        ColumnKind::Integer => false,
-        ColumnKind::Text => column.primary,
+    match kind {
+        ColumnKind::Integer => true,
+        ColumnKind::Text => !primary,
+        ColumnKind::Blob => false,
     }
 }
 
-fn has_text_key(columns: &[Column]) -> bool
-    ensures { result ≡ spec.has_text_key columns.now }
+fn is_unbuilt(column: &ColumnDef) -> bool
+    ensures { result ≡ spec.is_unbuilt column.now }
 {
-    columns.iter().any(|column| is_text_key(column))
+    column.not_null || column.unique || !is_built_kind(column.kind, column.primary)
+}
+
+/// Whether one of the columns isn't built.
+pub fn has_unbuilt(columns: &[ColumnDef]) -> bool
+    ensures { result ≡ spec.has_unbuilt columns.now }
+{
+    columns.iter().any(|column| is_unbuilt(column))
 }
 
 /// Whether no table can have this name and these columns.
-pub fn is_refused(name: &[u8], columns: &[Column]) -> bool
+pub fn is_refused(name: &[u8], columns: &[ColumnDef]) -> bool
     ensures { result ≡ spec.is_refused name.now columns.now }
 {
-    columns.is_empty()
-        || is_reserved(name)
-        || has_twice(columns)
-        || has_two_keys(columns)
-        || has_text_key(columns)
+    columns.is_empty() || is_reserved(name) || has_twice(columns) || has_two_keys(columns)
 }

@@ -6,8 +6,8 @@ ghost use Rattle.rq_engine.specs.Meaning as spec;
 ghost use Rattle.rq_engine.specs.Database as db;
 
 use crate::messages::decimal_text;
-use crate::statement::{Column, ColumnKind};
 use crate::table::{LAST_ROWID, Table};
+use rq_grammar::{ColumnDef, ColumnKind};
 use rq_values::{NoMemory, Seq, Text, TryCopy, Value};
 use std::alloc::Global;
 
@@ -26,16 +26,17 @@ pub fn is_same_name(a: &[u8], b: &[u8]) -> bool
 }
 
 /// Whether the column is the rowid.
-pub fn is_rowid(column: &Column) -> bool
+pub fn is_rowid(column: &ColumnDef) -> bool
     ensures { result ≡ db.is_rowid column.now }
 {
     match column.kind {
         ColumnKind::Integer => column.primary,
         ColumnKind::Text => false,
+        ColumnKind::Blob => false,
     }
 }
 
-fn target_at(column: &Column, place: usize) -> Target
+fn target_at(column: &ColumnDef, place: usize) -> Target
     ensures { result ≡ spec.target_at column.now place }
 {
     if is_rowid(column) {
@@ -45,7 +46,7 @@ fn target_at(column: &Column, place: usize) -> Target
     }
 }
 
-fn column_target(columns: &[Column], name: &[u8]) -> Option<Target>
+fn column_target(columns: &[ColumnDef], name: &[u8]) -> Option<Target>
     ensures { result ≡ spec.column_target 0 columns.now name.now }
 {
     for (place, column) in columns.iter().enumerate() {
@@ -66,7 +67,7 @@ fn rowid_target(name: &[u8]) -> Option<Target>
     }
 }
 
-fn target_of(columns: &[Column], name: &[u8]) -> Option<Target>
+fn target_of(columns: &[ColumnDef], name: &[u8]) -> Option<Target>
     ensures { result ≡ spec.target_of columns.now name.now }
 {
     match column_target(columns, name) {
@@ -95,7 +96,7 @@ fn is_named(target: Target, targets: &[Target]) -> bool
 /// What each name names. None where one names nothing.
 fn named_by(
     alloc: Global,
-    columns: &[Column],
+    columns: &[ColumnDef],
     names: &[Text],
 ) -> Result<Option<Seq<Target>>, NoMemory>
     ensures { IfOk result (λ targets. targets ≡ spec.named_by columns.now names.now) }
@@ -140,7 +141,7 @@ fn if_apart(targets: Seq<Target>) -> Option<Seq<Target>>
 /// What the names name. None where one names nothing, or the same as another.
 fn targets_of(
     alloc: Global,
-    columns: &[Column],
+    columns: &[ColumnDef],
     names: &[Text],
 ) -> Result<Option<Seq<Target>>, NoMemory>
     ensures { IfOk result (λ targets. targets ≡ spec.targets_of columns.now names.now) }
@@ -208,6 +209,7 @@ fn stored_integer(alloc: Global, number: i64, kind: ColumnKind) -> Result<Option
     match kind {
         ColumnKind::Integer => Ok(Some(Value::Int(number))),
         ColumnKind::Text => Ok(Some(Value::Text(decimal_text(alloc, number)?))),
+        ColumnKind::Blob => Ok(None),
     }
 }
 
@@ -226,6 +228,7 @@ fn stored_text(alloc: Global, text: &Text, kind: ColumnKind) -> Result<Option<Va
     match kind {
         ColumnKind::Integer => Ok(integer_of_text(text)),
         ColumnKind::Text => Ok(Some(Value::Text(text.copy(alloc)?))),
+        ColumnKind::Blob => Ok(None),
     }
 }
 
@@ -261,7 +264,7 @@ fn stored_at(
 fn cell(
     alloc: Global,
     rowid: i64,
-    column: &Column,
+    column: &ColumnDef,
     place: usize,
     targets: &[Target],
     values: &[Value],
@@ -278,7 +281,7 @@ fn cell(
 fn cells(
     alloc: Global,
     rowid: i64,
-    columns: &[Column],
+    columns: &[ColumnDef],
     targets: &[Target],
     values: &[Value],
 ) -> Result<Option<Seq<Value>>, NoMemory>

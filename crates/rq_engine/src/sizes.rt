@@ -3,7 +3,7 @@ ghost use Rattle.std.specs.Prelude.{◌≡◌, ◌+◌, ◌<◌, ◌≤◌, ◌^
 ghost use Rattle.rq_engine.specs.Database as db;
 
 use crate::inserting::is_rowid;
-use crate::statement::Column;
+use rq_grammar::ColumnDef;
 use rq_values::{Text, Value};
 
 /// What the tables may take.
@@ -21,7 +21,7 @@ fn value_size(value: &Value) -> u64
     }
 }
 
-fn cell_size(column: &Column, value: &Value) -> u64
+fn cell_size(column: &ColumnDef, value: &Value) -> u64
     ensures size { result ≡ db.cell_size column.now value.now }
     ensures small { result < 2 ^ 63 + 5 }
 {
@@ -40,7 +40,7 @@ fn within_limit(size: u64) -> Option<u64>
 }
 
 /// The size with a row more. None where that is over the limit.
-pub fn with_row_size(size: u64, columns: &[Column], row: &[Value]) -> Option<u64>
+pub fn with_row_size(size: u64, columns: &[ColumnDef], row: &[Value]) -> Option<u64>
     requires { size ≤ SIZE_LIMIT }
     ensures { SomeIff result (size + db.row_size columns.now row.now ≤ SIZE_LIMIT) (size + db.row_size columns.now row.now) }
 {
@@ -58,7 +58,7 @@ pub fn with_row_size(size: u64, columns: &[Column], row: &[Value]) -> Option<u64
 }
 
 /// The size with a table more that has no rows. None where that is over the limit.
-pub fn with_table_size(size: u64, name: &Text, columns: &[Column]) -> Option<u64>
+pub fn with_table_size(size: u64, name: &Text, columns: &[ColumnDef]) -> Option<u64>
     requires { size ≤ SIZE_LIMIT }
     ensures { SomeIff result (size + db.empty_size name.now columns.now ≤ SIZE_LIMIT) (size + db.empty_size name.now columns.now) }
 {

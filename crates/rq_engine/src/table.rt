@@ -4,7 +4,7 @@ ghost use Rattle.std.specs.Map.{values_of};
 ghost use Rattle.rq_engine.specs.Meaning as spec;
 
 use crate::messages::known_text;
-use crate::statement::{Column, ColumnKind};
+use rq_grammar::{ColumnDef, ColumnKind};
 use rq_values::{NoMemory, Seq, Text, TryCopy, Value};
 use std::alloc::Global;
 use std::collections::BTreeMap;
@@ -14,10 +14,9 @@ use std::marker::Model;
 pub const LAST_ROWID: i64 = 9_223_372_036_854_775_806;
 
 /// A table: its name and columns as declared, and its rows by rowid.
-#[derive(Drop)]
 pub struct Table {
     name: Text,
-    columns: Seq<Column>,
+    columns: Seq<ColumnDef>,
     rows: BTreeMap<i64, Seq<Value>>,
 }
 
@@ -29,9 +28,22 @@ impl Model for Table {
     ghost view = { λ t. record { name = t.name; columns = t.columns; rows = t.rows.entries } };
 }
 
+impl Drop for Table {
+    fn drop(self) {
+        let Table {
+            name,
+            columns,
+            rows,
+        } = self;
+        drop(name);
+        drop(columns);
+        drop(rows);
+    }
+}
+
 impl Table {
     /// A table without rows.
-    pub fn new(alloc: Global, name: Text, columns: Seq<Column>) -> Table
+    pub fn new(alloc: Global, name: Text, columns: Seq<ColumnDef>) -> Table
         ensures { result ≡ record { name = name; columns = columns; rows = [] } }
     {
         Table {
@@ -41,7 +53,7 @@ impl Table {
         }
     }
 
-    pub fn columns(&self) -> &[Column]
+    pub fn columns(&self) -> &[ColumnDef]
         ensures { result.now ≡ self.now.columns }
     {
         self.columns.as_slice()
@@ -122,5 +134,6 @@ fn type_text(alloc: Global, kind: ColumnKind) -> Result<Text, NoMemory>
     match kind {
         ColumnKind::Integer => known_text(alloc, b"integer"),
         ColumnKind::Text => known_text(alloc, b"text"),
+        ColumnKind::Blob => known_text(alloc, b"blob"),
     }
 }

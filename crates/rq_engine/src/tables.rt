@@ -7,23 +7,23 @@ ghost use Rattle.rq_engine.specs.Database as db;
 ghost use Rattle.rq_engine.specs.Running as running;
 ghost use Rattle.rq_engine.specs.declared.refusal.Refusal.TheVariants as refusal;
 
-use crate::command::Res;
-use crate::creating::is_refused;
+use crate::creating::{has_unbuilt, is_refused};
 use crate::inserting::new_row;
-use crate::item::Item;
 use crate::messages::{already_exists, no_such_table, not_built};
 use crate::refusal::Refusal;
 use crate::sizes::{with_row_size, with_table_size};
-use crate::statement::{Column, Statement};
 use crate::table::Table;
 use crate::table_key::TableKey;
+use crate::valuing::{values_in, whole_table};
+use rq_grammar::{ColumnDef, InsertRows, SelectStmt, Stmt};
+use rq_statement::{Item, Res};
 use rq_values::{NoMemory, Seq, Text, TryCopy, Value};
+use sqlite_items::Items;
 use std::alloc::Global;
 use std::collections::BTreeMap;
 use std::marker::Model;
 
 /// The tables, by name. `size` is what they take where they are spelled.
-#[derive(Drop)]
 pub struct Tables {
     tables: BTreeMap<TableKey, Table>,
     size: u64,
@@ -38,6 +38,13 @@ impl Model for Tables {
     ghost view = { λ t. t.tables.entries };
 
     ghost invariant = { λ t. (t.size ≡ db.tables_size t.tables.entries) × (t.size ≤ db.size_limit) };
+}
+
+impl Drop for Tables {
+    fn drop(self) {
+        let Tables { tables, size: _ } = self;
+        drop(tables);
+    }
 }
 
 /// Puts a row into the table of the key. With no memory the tables stay as they were.
@@ -88,10 +95,28 @@ fn taken(alloc: Global, name: &Text) -> Result<Refusal, NoMemory>
 }
 
 /// A table without rows.
-fn empty_table(alloc: Global, name: &Text, columns: &Seq<Column>) -> Result<Table, NoMemory>
+fn empty_table(alloc: Global, name: &Text, columns: &Items<ColumnDef>) -> Result<Table, NoMemory>
     ensures { IfOk result (λ t. t ≡ record { name = name.now; columns = columns.now; rows = [] }) }
 {
-    Ok(Table::new(alloc, name.copy(alloc)?, columns.copy(alloc)?))
+    let name = name.copy(alloc)?;
+    match copy_columns(alloc, columns.as_slice()) {
+        Ok(columns) => Ok(Table::new(alloc, name, columns)),
+        Err(error) => {
+            drop(name);
+            Err(error)
+        }
+    }
+}
+
+/// A copy of each column.
+fn copy_columns(alloc: Global, columns: &[ColumnDef]) -> Result<Seq<ColumnDef>, NoMemory>
+    ensures { IfOk result (λ copy. copy ≡ columns.now) }
+{
+    let mut copy = Seq::new(alloc);
+    for column in columns {
+        copy.push(column.copy(alloc)?)?;
+    }
+    Ok(copy)
 }
 
 impl Tables {
@@ -105,7 +130,12 @@ impl Tables {
         }
     }
 
-    fn create(&mut self, alloc: Global, name: &Text, columns: &Seq<Column>) -> Result<Res, Refusal>
+    fn create(
+        &mut self,
+        alloc: Global,
+        name: &Text,
+        columns: &Items<ColumnDef>,
+    ) -> Result<Res, Refusal>
         ensures { running.Gives (spec.created self.old name.now columns.now) self.old self.new result }
     {
         let key = TableKey::of(alloc, name)?;
@@ -168,27 +198,73 @@ impl Tables {
         }
     }
 
-    fn run(&mut self, alloc: Global, statement: &Statement) -> Result<Res, Refusal>
-        ensures { running.Gives (spec.run self.old statement.now) self.old self.new result }
+    fn create_as(
+        &mut self,
+        alloc: Global,
+        if_not_exists: bool,
+        name: &Text,
+        columns: &Items<ColumnDef>,
+    ) -> Result<Res, Refusal>
+        ensures { running.Gives (spec.created_as self.old if_not_exists name.now columns.now) self.old self.new result }
     {
-        match statement {
-            Statement::Create { table, columns } => self.create(alloc, table, columns),
-            Statement::Insert {
-                table,
-                columns,
-                values,
-            } => self.insert(alloc, table, columns.as_slice(), values.as_slice()),
-            Statement::SelectAll { .. } => Err(unbuilt(alloc)?),
+        if if_not_exists || has_unbuilt(columns.as_slice()) {
+            return Err(unbuilt(alloc)?);
+        }
+        self.create(alloc, name, columns)
+    }
+
+    fn insert_rows(
+        &mut self,
+        alloc: Global,
+        name: &Text,
+        columns: &[Text],
+        rows: &InsertRows,
+    ) -> Result<Res, Refusal>
+        ensures { running.Gives (spec.inserted_rows self.old name.now columns.now rows.now) self.old self.new result }
+    {
+        match values_in(alloc, rows)? {
+            None => Err(unbuilt(alloc)?),
+            Some(values) => {
+                let done = self.insert(alloc, name, columns, values.as_slice());
+                drop(values);
+                done
+            }
         }
     }
 
-    fn read(&self, alloc: Global, statement: &Statement) -> Result<Res, Refusal>
-        ensures { running.Answers (spec.read self.now statement.now) result }
+    fn select_all(&self, alloc: Global, select: &SelectStmt) -> Result<Res, Refusal>
+        ensures { running.Answers (spec.selected_all self.now select.now) result }
     {
-        match statement {
-            Statement::Create { .. } => Err(unbuilt(alloc)?),
-            Statement::Insert { .. } => Err(unbuilt(alloc)?),
-            Statement::SelectAll { table } => self.select(alloc, table),
+        match whole_table(select) {
+            None => Err(unbuilt(alloc)?),
+            Some(name) => self.select(alloc, name),
+        }
+    }
+
+    fn run(&mut self, alloc: Global, stmt: &Stmt) -> Result<Res, Refusal>
+        ensures { running.Gives (spec.run self.old stmt.now) self.old self.new result }
+    {
+        match stmt {
+            Stmt::Create {
+                if_not_exists,
+                table,
+                columns,
+            } => self.create_as(alloc, *if_not_exists, table, columns),
+            Stmt::Insert {
+                table,
+                columns: Some(columns),
+                rows,
+            } => self.insert_rows(alloc, table, columns.as_slice(), rows),
+            _ => Err(unbuilt(alloc)?),
+        }
+    }
+
+    fn read(&self, alloc: Global, stmt: &Stmt) -> Result<Res, Refusal>
+        ensures { running.Answers (spec.read self.now stmt.now) result }
+    {
+        match stmt {
+            Stmt::Select(select) => self.select_all(alloc, select),
+            _ => Err(unbuilt(alloc)?),
         }
     }
 
@@ -196,7 +272,7 @@ impl Tables {
         ensures { IfOk result (λ r. spec.means self.old item.now ≡ (self.new, r)) }
     {
         match item {
-            Item::Run(statement) => settle(self.run(alloc, statement)),
+            Item::Run(settled) => settle(self.run(alloc, settled.stmt())),
             Item::Fail(text) => Ok(Res::Error(text.copy(alloc)?)),
         }
     }
@@ -205,7 +281,7 @@ impl Tables {
         ensures { IfOk result (λ r. r ≡ spec.answer_of self.now item.now) }
     {
         match item {
-            Item::Run(statement) => settle(self.read(alloc, statement)),
+            Item::Run(settled) => settle(self.read(alloc, settled.stmt())),
             Item::Fail(text) => Ok(Res::Error(text.copy(alloc)?)),
         }
     }

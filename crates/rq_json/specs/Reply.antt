@@ -8,10 +8,10 @@ use Rattle.base64.specs.Engines.{standard}
 use Rattle.base64.specs.GeneralPurpose.{encode_of}
 use Rattle.rq_values.specs.declared.value.Value.{Value}
 use Rattle.rq_values.specs.declared.value.Value.TheVariants.{Null, Int, Text, Blob}
-use Rattle.rq_engine.specs.declared.command.Res.{Res}
-use Rattle.rq_engine.specs.declared.command.Res.TheVariants.{Done, Rows, Error}
-use Rattle.rq_engine.specs.declared.say.Say.{Say}
-use Rattle.rq_engine.specs.declared.say.Say.TheVariants.{Results, NoLeader, EntryTooLarge}
+use Rattle.rq_statement.specs.declared.res.Res.{Res}
+use Rattle.rq_statement.specs.declared.res.Res.TheVariants.{Done, Rows, Error}
+use Rattle.rq_request.specs.declared.say.Say.{Say}
+use Rattle.rq_request.specs.declared.say.Say.TheVariants.{Results, NoLeader, EntryTooLarge}
 
 -- a list of tokens in square brackets
 abbrev pub array_of : List Token → List Token

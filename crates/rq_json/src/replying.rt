@@ -6,13 +6,14 @@ ghost use Rattle.json.specs.Token.{key, number, string};
 ghost use Rattle.json.specs.Print.{print};
 ghost use Rattle.base64.specs.Engines.{standard};
 ghost use Rattle.base64.specs.GeneralPurpose.{encode_of};
-ghost use Rattle.rq_engine.specs.declared.command.Res.TheVariants.{Done, Rows, Error};
-ghost use Rattle.rq_engine.specs.declared.say.Say.TheVariants.{NoLeader, EntryTooLarge};
+ghost use Rattle.rq_statement.specs.declared.res.Res.TheVariants.{Done, Rows, Error};
+ghost use Rattle.rq_request.specs.declared.say.Say.TheVariants.{NoLeader, EntryTooLarge};
 ghost use Rattle.rq_json.specs.Tokens.{Adds};
 
 use base64::engine::general_purpose::STANDARD;
 use json::Writer;
-use rq_engine::{Res, Say};
+use rq_request::Say;
+use rq_statement::Res;
 use rq_values::{NoMemory, Seq, Text, Value};
 use std::alloc::{AllocError, Global};
 

@@ -4,8 +4,8 @@ use Rattle.rq_engine.specs.Database.{Database}
 use Rattle.rq_node.specs.declared.log_entry.LogEntry.{LogEntry}
 use Rattle.rq_node.specs.declared.role.Role.{Role}
 use Rattle.rq_node.specs.declared.waiting.Waiting.{Waiting}
-use Rattle.rq_engine.specs.declared.say.Say.{Say}
-use Rattle.rq_engine.specs.declared.say.Answer.{Answer}
+use Rattle.rq_request.specs.declared.say.Say.{Say}
+use Rattle.rq_request.specs.declared.say.Answer.{Answer}
 
 -- the log counts from index 1: the entry at index i stands behind i - 1 others
 pub record Node : Type 0 where

@@ -1,7 +1,7 @@
 -- What a node's parts keep.
 use Rattle.std.specs.Prelude.{◌≡◌, ◌≤◌, ℕ, true, List, length, All, ⊤}
 use Rattle.rq_values.specs.Text.{is_text}
-use Rattle.rq_engine.specs.declared.item.Item.{Item}
+use Rattle.rq_statement.specs.declared.item.Item.{Item}
 use Rattle.rq_engine.specs.Command.{execute_bytes}
 use Rattle.rq_command.specs.Stored.{text_of, IsStored}
 use Rattle.rq_node.specs.declared.log_entry.LogEntry.{LogEntry}

@@ -62,7 +62,7 @@ fn commands_and_refusals(rt: HostRuntime) -> Result<(), Fail> {
             DecodeError::Text(7),
         ),
         (
-            b"\x01\0\x01\0\0\0\0\x10\0\0\0DROP TABLE \"foo\"".as_slice(),
+            b"\x01\0\x01\0\0\0\0\x08\0\0\0SELECT ?".as_slice(),
             DecodeError::Text(7),
         ),
         (TRAILING, DecodeError::Trailing(12)),

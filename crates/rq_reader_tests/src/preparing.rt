@@ -1,6 +1,7 @@
 //! Statements read, printed, spelled and run.
-use rq_engine::{Item, Res, Tables, encode_execute, print};
+use rq_engine::{Tables, encode_execute};
 use rq_settle::prepare;
+use rq_statement::{Item, Res};
 use rq_values::{NoMemory, Seq, Text, Value};
 use std::alloc::Global;
 use std::test::Fail;
@@ -10,7 +11,9 @@ fn canonical(alloc: Global, text: &str) -> Result<String, Fail> {
     let item = prepare(alloc, text.as_bytes())?;
     let mut bytes = Vec::new(alloc);
     let done = match &item {
-        Item::Run(statement) => print(statement, &mut bytes),
+        Item::Run(settled) => bytes
+            .extend_from_slice(settled.text())
+            .map_err(NoMemory::from),
         Item::Fail(error) => bytes
             .extend_from_slice(error.bytes())
             .map_err(NoMemory::from),
@@ -22,8 +25,8 @@ fn canonical(alloc: Global, text: &str) -> Result<String, Fail> {
 
 const NOT_BUILT: &str = "not built";
 
-/// Texts, and the canonical text of the form in which they run, or their error.
-const PREPARED: [(&str, &str); 29] = [
+/// Texts, and the canonical text of their settled statement, or their error.
+const PREPARED: [(&str, &str); 39] = [
     (
         "CREATE TABLE foo (id INTEGER PRIMARY KEY)",
         "CREATE TABLE \"foo\" (\"id\" INTEGER PRIMARY KEY)",
@@ -48,20 +51,38 @@ const PREPARED: [(&str, &str); 29] = [
     ("select*from\"select\"", "SELECT * FROM \"select\""),
     ("SELECT * FROM index", "SELECT * FROM \"index\""),
     ("SELECT * FROM select", "near \"select\": syntax error"),
-    ("SELECT id FROM foo", NOT_BUILT),
-    ("SELECT * FROM foo WHERE id = 1", NOT_BUILT),
+    ("SELECT id FROM foo", "SELECT \"id\" FROM \"foo\""),
+    (
+        "SELECT * FROM foo WHERE id = 1",
+        "SELECT * FROM \"foo\" WHERE (\"id\" = 1)",
+    ),
     ("SELECT * FROM foo /* a */ b", "near \"b\": syntax error"),
     ("SELECT * FROM \"foo", "near \"\"foo\": syntax error"),
-    ("DROP TABLE foo", NOT_BUILT),
+    ("DROP TABLE foo", "DROP TABLE \"foo\""),
     ("", "incomplete input"),
     (";", "near \";\": syntax error"),
     ("CREATE TABLE t ()", "near \")\": syntax error"),
-    ("CREATE TABLE t (a INTEGER NOT NULL)", NOT_BUILT),
-    ("CREATE TABLE t (a TEXT PRIMARY KEY)", NOT_BUILT),
-    ("CREATE TABLE t (a BLOB)", NOT_BUILT),
-    ("CREATE TABLE IF NOT EXISTS t (a TEXT)", NOT_BUILT),
-    ("INSERT INTO t(a) VALUES (NULL)", NOT_BUILT),
-    ("INSERT INTO t(a) VALUES (X'00')", NOT_BUILT),
+    (
+        "CREATE TABLE t (a INTEGER NOT NULL)",
+        "CREATE TABLE \"t\" (\"a\" INTEGER NOT NULL)",
+    ),
+    (
+        "CREATE TABLE t (a TEXT PRIMARY KEY)",
+        "CREATE TABLE \"t\" (\"a\" TEXT PRIMARY KEY)",
+    ),
+    ("CREATE TABLE t (a BLOB)", "CREATE TABLE \"t\" (\"a\" BLOB)"),
+    (
+        "CREATE TABLE IF NOT EXISTS t (a TEXT)",
+        "CREATE TABLE IF NOT EXISTS \"t\" (\"a\" TEXT)",
+    ),
+    (
+        "INSERT INTO t(a) VALUES (NULL)",
+        "INSERT INTO \"t\" (\"a\") VALUES (NULL)",
+    ),
+    (
+        "INSERT INTO t(a) VALUES (X'00')",
+        "INSERT INTO \"t\" (\"a\") VALUES (X'00')",
+    ),
     (
         "INSERT INTO t(a) VALUES (9223372036854775808)",
         "not in profile: 9223372036854775808",
@@ -70,10 +91,26 @@ const PREPARED: [(&str, &str); 29] = [
         "INSERT INTO t(a) VALUES (-9223372036854775809)",
         "not in profile: 9223372036854775809",
     ),
-    ("INSERT INTO t(a) VALUES (- -5)", NOT_BUILT),
+    (
+        "INSERT INTO t(a) VALUES (- -5)",
+        "INSERT INTO \"t\" (\"a\") VALUES (-(-5))",
+    ),
     ("INSERT INTO t(a) VALUES (1.5)", "not in profile: 1.5"),
-    ("INSERT INTO t(a) VALUES (1), (2)", NOT_BUILT),
-    ("INSERT INTO t VALUES (1)", NOT_BUILT),
+    (
+        "INSERT INTO t(a) VALUES (1), (2)",
+        "INSERT INTO \"t\" (\"a\") VALUES (1), (2)",
+    ),
+    ("INSERT INTO t VALUES (1)", "INSERT INTO \"t\" VALUES (1)"),
+    ("SELECT ?", NOT_BUILT),
+    ("SELECT 1 LIMIT :n", NOT_BUILT),
+    ("SELECT 1 + ABS(RANDOM())", NOT_BUILT),
+    ("INSERT INTO t VALUES (RANDOMBLOB(4))", NOT_BUILT),
+    ("SELECT a FROM t WHERE b = CURRENT_TIMESTAMP", NOT_BUILT),
+    ("SELECT 1 ORDER BY DATETIME('NoW')", NOT_BUILT),
+    ("UPDATE t SET a = TIME()", NOT_BUILT),
+    ("SELECT DATE('2000-01-01')", "SELECT DATE('2000-01-01')"),
+    ("SELECT DATE('now', 1)", "SELECT DATE('now', 1)"),
+    ("SELECT RANDOM(1), 'now'", "SELECT RANDOM(1), 'now'"),
 ];
 
 #[test]
@@ -196,7 +233,7 @@ fn answer(alloc: Global, tables: &mut Tables, text: &str) -> Result<String, Fail
 }
 
 /// Statements, one after the other over the same tables, and their answers.
-const SCRIPT: [(&str, &str); 31] = [
+const SCRIPT: [(&str, &str); 40] = [
     ("INSERT INTO foo(name) VALUES ('x')", "no such table: foo"),
     (
         "CREATE TABLE foo (id INTEGER PRIMARY KEY, name TEXT, age INTEGER)",
@@ -247,6 +284,15 @@ const SCRIPT: [(&str, &str); 31] = [
     ("?SELECT * FROM h", "a |text |x |y |"),
     ("?SELECT * FROM g", "no such table: g"),
     ("CREATE TABLE sqlite_x (a TEXT)", NOT_BUILT),
+    ("CREATE TABLE IF NOT EXISTS h (a TEXT)", NOT_BUILT),
+    ("CREATE TABLE h (a TEXT PRIMARY KEY)", NOT_BUILT),
+    ("CREATE TABLE h (a INTEGER UNIQUE)", NOT_BUILT),
+    ("INSERT INTO g VALUES (1)", NOT_BUILT),
+    ("INSERT INTO g(a) VALUES (1), (2)", NOT_BUILT),
+    ("INSERT INTO g(a) VALUES (NULL)", NOT_BUILT),
+    ("DROP TABLE h", NOT_BUILT),
+    ("?SELECT a FROM h", NOT_BUILT),
+    ("?SELECT * FROM h LIMIT 1", NOT_BUILT),
     ("CREATE TABLE d (a TEXT, A INTEGER)", NOT_BUILT),
     (
         "CREATE TABLE d (a INTEGER PRIMARY KEY, b INTEGER PRIMARY KEY)",

@@ -2,8 +2,8 @@
 use Rattle.std.proofs.Common.{◌≡◌, ◌≤◌, ◌<◌, ℕ, zero, suc, ◌+◌, ◌-◌, ◌==◌, ◌||◌, ◌^◌, nat_lt, List, [], ◌∷◌, ◌++◌, length, slice_get, Bool, true, false, if◌then◌else◌, bytes_eq, Option, Some, None, option_and_then, refl, sym, ◌∙◌, ap, subst, arith}
 use Rattle.std.specs.Prelude.{⊤}
 use Rattle.std.specs.Option.{option_map}
-use Rattle.rq_engine.specs.declared.item.Item.{Item}
-use Rattle.rq_engine.specs.declared.say.Say.TheVariants.{NoLeader, EntryTooLarge}
+use Rattle.rq_statement.specs.declared.item.Item.{Item}
+use Rattle.rq_request.specs.declared.say.Say.TheVariants.{NoLeader, EntryTooLarge}
 use Rattle.rq_engine.specs.Command.{execute_bytes}
 use Rattle.rq_json.specs.Body.{texts_of}
 use Rattle.rq_node.specs.declared.log_entry.LogEntry.{LogEntry}

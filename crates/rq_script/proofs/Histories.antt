@@ -2,10 +2,10 @@
 use Rattle.std.proofs.Common.{◌≡◌, ◌<◌, ◌≤◌, ℕ, zero, suc, ◌+◌, ◌-◌, ◌==◌, nat_eq, List, [], ◌∷◌, ◌++◌, length, take, slice_get, Bool, true, false, if◌then◌else◌, Option, Some, None, refl, sym, ◌∙◌, ap, subst, arith}
 use Rattle.std.specs.Prelude.{⊤}
 use Rattle.std.proofs.lemmas.List.{append-nil, length-append}
-use Rattle.rq_engine.specs.declared.item.Item.{Item}
-use Rattle.rq_engine.specs.declared.say.Say.{Say}
-use Rattle.rq_engine.specs.declared.say.Say.TheVariants.{Results, NoLeader, EntryTooLarge}
-use Rattle.rq_engine.specs.declared.say.Answer.{Answer}
+use Rattle.rq_statement.specs.declared.item.Item.{Item}
+use Rattle.rq_request.specs.declared.say.Say.{Say}
+use Rattle.rq_request.specs.declared.say.Say.TheVariants.{Results, NoLeader, EntryTooLarge}
+use Rattle.rq_request.specs.declared.say.Answer.{Answer}
 use Rattle.rq_engine.specs.Database.{Database}
 use Rattle.rq_engine.specs.Meaning.{executed, answers}
 use Rattle.rq_node.specs.declared.log_entry.LogEntry.{LogEntry}

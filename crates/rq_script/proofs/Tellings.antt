@@ -3,9 +3,9 @@ use Rattle.std.proofs.Common.{◌≡◌, inl, inr, ℕ, zero, suc, ◌+◌, ◌-
 use Rattle.std.specs.Prelude.{⊤}
 use Rattle.std.specs.Option.{option_map}
 use Rattle.std.proofs.lemmas.List.{append-nil}
-use Rattle.rq_engine.specs.declared.item.Item.{Item}
-use Rattle.rq_engine.specs.declared.say.Say.TheVariants.{Results}
-use Rattle.rq_engine.specs.declared.say.Answer.{Answer}
+use Rattle.rq_statement.specs.declared.item.Item.{Item}
+use Rattle.rq_request.specs.declared.say.Say.TheVariants.{Results}
+use Rattle.rq_request.specs.declared.say.Answer.{Answer}
 use Rattle.rq_engine.specs.Meaning.{answers}
 use Rattle.rq_json.specs.Body.{texts_of}
 use Rattle.rq_node.specs.Node.{Node, Kept, Durable, Turn, kept_after, quiet}

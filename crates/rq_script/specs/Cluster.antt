@@ -1,7 +1,7 @@
 -- The cluster of a script and what a line does to it, as docs/SCRIPT.md has it.
 use Rattle.std.specs.Prelude.{◌≡◌, ◌⊎◌, ◌+◌, ◌-◌, ◌*◌, if◌then◌else◌, nat_le, ℕ, List, [], ◌∷◌, ◌++◌, length, take, map, flat_map, bytes_eq, Bool, true, is_some, Option, Some, None, option_and_then}
 use Rattle.std.specs.Option.{option_map}
-use Rattle.rq_engine.specs.declared.item.Item.{Item}
+use Rattle.rq_statement.specs.declared.item.Item.{Item}
 use Rattle.rq_json.specs.Body.{texts_of}
 use Rattle.rq_node.specs.declared.waiting.Waiting.{Waiting}
 use Rattle.rq_node.specs.Node.{Node, Kept, Durable, Turn, kept_of, kept_after}

@@ -1,8 +1,8 @@
 -- The history of a script's lines: the book of asks and answers, and the one log that was chosen. docs/RAFT.md, "What a run promises".
 use Rattle.std.specs.Prelude.{◌+◌, ◌-◌, if◌then◌else◌, nat_lt, ℕ, zero, suc, List, [], ◌∷◌, ◌++◌, length, take, map, slice_get, Option, Some, None, option_and_then}
-use Rattle.rq_engine.specs.declared.item.Item.{Item}
-use Rattle.rq_engine.specs.declared.say.Say.{Say}
-use Rattle.rq_engine.specs.declared.say.Answer.{Answer}
+use Rattle.rq_statement.specs.declared.item.Item.{Item}
+use Rattle.rq_request.specs.declared.say.Say.{Say}
+use Rattle.rq_request.specs.declared.say.Answer.{Answer}
 use Rattle.rq_node.specs.declared.log_entry.LogEntry.{LogEntry}
 use Rattle.rq_node.specs.Node.{Node, Turn}
 use Rattle.rq_node.specs.Rules.{execute, query, applied_entry}

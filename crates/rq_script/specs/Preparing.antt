@@ -1,6 +1,6 @@
 -- What the statements of a line are read as.
 use Rattle.std.specs.Prelude.{ℕ, List, [], ◌∷◌, Option, Some, None, ⊤}
-use Rattle.rq_engine.specs.declared.item.Item.{Item}
+use Rattle.rq_statement.specs.declared.item.Item.{Item}
 use Rattle.rq_json.specs.Body.{texts_of}
 use Rattle.rq_settle.specs.Prepared.{IsPrepared}
 use Rattle.rq_script.specs.ScriptLine.{Line, Skip, Cluster, Elect, Apply, Execute, Query, Stop, StopWithin, Start, Show}

@@ -1,9 +1,9 @@
 -- What each run promises at each of its moments. docs/RAFT.md, "What a run promises".
 use Rattle.std.specs.Prelude.{◌≡◌, ◌≤◌, ◌-◌, if◌then◌else◌, nat_eq, ℕ, List, [], ◌∷◌, ◌++◌, length, take, slice_get, Option, Some, None, ⊤}
-use Rattle.rq_engine.specs.declared.item.Item.{Item}
-use Rattle.rq_engine.specs.declared.command.Res.{Res}
-use Rattle.rq_engine.specs.declared.say.Say.{Say}
-use Rattle.rq_engine.specs.declared.say.Say.TheVariants.{Results, NoLeader, EntryTooLarge}
+use Rattle.rq_statement.specs.declared.item.Item.{Item}
+use Rattle.rq_statement.specs.declared.res.Res.{Res}
+use Rattle.rq_request.specs.declared.say.Say.{Say}
+use Rattle.rq_request.specs.declared.say.Say.TheVariants.{Results, NoLeader, EntryTooLarge}
 use Rattle.rq_engine.specs.Database.{Database}
 use Rattle.rq_engine.specs.Meaning.{executed, answers}
 use Rattle.rq_node.specs.declared.log_entry.LogEntry.{LogEntry}

@@ -1,10 +1,10 @@
 -- What a script writes, as docs/SCRIPT.md, "Output", has it.
 use Rattle.std.specs.Prelude.{ℕ, List, ◌++◌, flat_map, length, codes, decimal}
-use Rattle.rq_engine.specs.declared.say.Answer.{Answer}
+use Rattle.rq_request.specs.declared.say.Answer.{Answer}
 use Rattle.rq_node.specs.Node.{Node}
 use Rattle.rq_node.specs.declared.role.Role.{Role}
 use Rattle.rq_node.specs.declared.role.Role.TheVariants.{Follower, Candidate, Leader}
-use Rattle.rq_engine.specs.Say.{status_of}
+use Rattle.rq_request.specs.Say.{status_of}
 use Rattle.rq_json.specs.Reply.{body_of}
 
 -- up ID boot B term T last L

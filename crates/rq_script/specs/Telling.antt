@@ -1,9 +1,9 @@
 -- How what a line writes and what is noted of it belong together. docs/RAFT.md, "What a run promises".
 use Rattle.std.specs.Prelude.{◌≡◌, ◌⊎◌, ℕ, List, [], ◌∷◌, slice_get, Some}
-use Rattle.rq_engine.specs.declared.item.Item.{Item}
-use Rattle.rq_engine.specs.declared.command.Res.{Res}
-use Rattle.rq_engine.specs.declared.say.Say.TheVariants.{Results}
-use Rattle.rq_engine.specs.declared.say.Answer.{Answer}
+use Rattle.rq_statement.specs.declared.item.Item.{Item}
+use Rattle.rq_statement.specs.declared.res.Res.{Res}
+use Rattle.rq_request.specs.declared.say.Say.TheVariants.{Results}
+use Rattle.rq_request.specs.declared.say.Answer.{Answer}
 use Rattle.rq_engine.specs.Meaning.{answers}
 use Rattle.rq_node.specs.Node.{Node}
 use Rattle.rq_script.specs.ScriptText.{up_text, down_text, answers_text, show_text, show_down_text}

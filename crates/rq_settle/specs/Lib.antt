@@ -1,4 +1,3 @@
-pub mod Built
 pub mod Prepared
 pub mod Refused
 pub mod Shown

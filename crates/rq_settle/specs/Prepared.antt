@@ -1,15 +1,14 @@
--- What a statement's text is, made ready for the log: docs/SQL.md, "Statements that run today" and "Errors of reading".
+-- What a statement's text is, made ready for the log: docs/SQL.md, "Settled statements" and "Errors of reading".
 use Rattle.std.specs.Prelude.{◌≡◌, ◌-◌, ◌==◌, nat_eq, nat_le, ℕ, if◌then◌else◌, List, [], ◌++◌, length, take, drop, codes, Option, Some, None, Result, Ok, Err}
 use Rattle.std.specs.Fmt.{decimal}
 use Rattle.rq_grammar.specs.declared.stmt.Stmt.{Stmt}
 use Rattle.rq_sql.specs.declared.error.ReadError.{ReadError}
 use Rattle.rq_sql.specs.declared.error.ReadError.TheVariants as e
 use Rattle.rq_sql.specs.Read.{most_bytes, Means}
-use Rattle.rq_engine.specs.Canonical.{canonical}
-use Rattle.rq_engine.specs.declared.item.Item.{Item}
-use Rattle.rq_engine.specs.declared.item.Item.TheVariants.{Run, Fail}
-use Rattle.rq_engine.specs.declared.statement.Statement.{Statement}
-use Rattle.rq_settle.specs.Built.{built}
+use Rattle.rq_print.specs.Text.{text_of}
+use Rattle.rq_statement.specs.Fixed.{statement_fixed}
+use Rattle.rq_statement.specs.declared.item.Item.{Item}
+use Rattle.rq_statement.specs.declared.item.Item.TheVariants.{Run, Fail}
 use Rattle.rq_settle.specs.Refused.{too_long, incomplete, near, not_in_profile, too_deep}
 
 -- the bytes of a text between two places
@@ -36,16 +35,15 @@ abbrev pub too_large : ℕ → List ℕ
 too_large n = codes "statement too large: " ++ decimal n
 
 -- a statement runs where its canonical text is no longer than what is read
-abbrev pub item_of_built : Statement → Item
-item_of_built statement = if nat_le (length (canonical statement)) most_bytes then Run statement else Fail (too_large (length (canonical statement)))
+abbrev pub item_of_fixed : Stmt → Item
+item_of_fixed stmt = if nat_le (length (text_of stmt)) most_bytes then Run stmt else Fail (too_large (length (text_of stmt)))
 
--- the form in which a statement runs, or the error of one that isn't built
-abbrev pub item_of_form : Option Statement → Item
-item_of_form (Some statement) = item_of_built statement
-item_of_form None = Fail not_built
+-- parameters, random nodes and time nodes aren't built
+abbrev pub item_of_statement : Stmt → Item
+item_of_statement stmt = if statement_fixed stmt then item_of_fixed stmt else Fail not_built
 
 abbrev pub item_of : List ℕ → Result Stmt ReadError → Item
-item_of text (Ok stmt) = item_of_form (built stmt)
+item_of text (Ok stmt) = item_of_statement stmt
 item_of text (Err error) = Fail (error_text text error)
 
 -- what the text means, as an item

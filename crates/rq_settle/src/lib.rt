@@ -1,10 +1,8 @@
-//! Statements, made ready for the log: what a text is read as, as far as it runs today.
+//! Statements' texts, made ready for the log: docs/SQL.md, "Settled statements".
 #![tactic(auto)]
 
-mod converting;
 mod preparing;
 mod refusing;
 mod showing;
 
-pub use converting::built;
 pub use preparing::{each_text_is_prepared, prepare};

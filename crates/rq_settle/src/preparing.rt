@@ -1,20 +1,19 @@
 //! A statement's text, made ready for the log.
-ghost use Rattle.std.specs.Prelude.{◌≡◌, ◌-◌, ℕ, List, length, IfOk, OnOk};
-ghost use Rattle.rq_engine.specs.Canonical.{canonical};
+ghost use Rattle.std.specs.Prelude.{◌≡◌, ◌-◌, ◌≤◌, true, ℕ, List, IfOk, OnOk};
+ghost use Rattle.rq_grammar.specs.declared.stmt.Stmt.{Stmt as TheStmt};
+ghost use Rattle.rq_grammar.specs.Depth.{deepest, the_limits};
+ghost use Rattle.rq_grammar.specs.Proper.{is_statement};
 ghost use Rattle.rq_sql.specs.declared.error.ReadError.TheVariants as errors;
-ghost use Rattle.rq_settle.specs.Built.{built as built_form};
+ghost use Rattle.rq_statement.specs.Unsettled.{IsUnsettled};
 ghost use Rattle.rq_settle.specs.Prepared as spec;
 
-use crate::converting::built;
 use crate::refusing::{incomplete, near, not_built, not_in_profile, too_deep, too_large, too_long};
-use rq_engine::{Item, Statement};
+use rq_canonical::what_is_read_is_proper;
 use rq_grammar::Stmt;
 use rq_sql::{ReadError, each_text_has_one_answer, read};
+use rq_statement::{Item, SettleError, Settled};
 use rq_values::{NoMemory, Text};
 use std::alloc::Global;
-
-/// How many bytes a canonical text may have, as many as a text that is read.
-const MOST_BYTES: usize = 4_194_304;
 
 /// The bytes between two places.
 #[tactic(auto, using(crate::proofs::Sources::between))]
@@ -50,49 +49,39 @@ fn error_text(alloc: Global, text: &[u8], error: ReadError) -> Result<Text, NoMe
     }
 }
 
-/// How many bytes the statement's canonical text has.
-fn canonical_len(alloc: Global, statement: &Statement) -> Result<usize, NoMemory>
-    ensures { IfOk result (λ len. len ≡ length (canonical statement.now)) }
+/// The item of a statement that isn't settled. Want of memory is none.
+#[tactic(auto, using(crate::proofs::Sources::not_fixed_item, crate::proofs::Sources::too_large_item))]
+fn item_of_error(alloc: Global, error: SettleError) -> Result<Item, NoMemory>
+    ensures { IfOk result (λ item. (stmt : TheStmt) → IsUnsettled stmt error → item ≡ spec.item_of_statement stmt) }
 {
-    let mut bytes = Vec::new(alloc);
-    rq_engine::print(statement, &mut bytes)?;
-    Ok(bytes.as_slice().len())
-}
-
-/// The item of a statement in the form in which it runs.
-fn item_of_built(alloc: Global, statement: Statement) -> Result<Item, NoMemory>
-    ensures { IfOk result (λ item. item ≡ spec.item_of_built statement) }
-{
-    match canonical_len(alloc, &statement) {
-        Ok(len) if len <= MOST_BYTES => Ok(Item::Run(statement)),
-        len => {
-            drop(statement);
-            Ok(Item::Fail(too_large(alloc, len?)?))
-        }
+    match error {
+        SettleError::NotFixed => Ok(Item::Fail(not_built(alloc)?)),
+        SettleError::TooLarge(len) => Ok(Item::Fail(too_large(alloc, len)?)),
+        SettleError::NoMemory => Err(NoMemory),
     }
 }
 
-/// The item of a statement.
-fn item_of(alloc: Global, stmt: &Stmt) -> Result<Item, NoMemory>
-    ensures { IfOk result (λ item. item ≡ spec.item_of_form (built_form stmt.now)) }
+/// The item of a statement that was read.
+#[tactic(auto, using(crate::proofs::Sources::settled_item))]
+fn item_of(alloc: Global, stmt: Stmt) -> Result<Item, NoMemory>
+    requires proper { is_statement stmt ≡ true }
+    requires shallow { deepest stmt ≤ the_limits.depth }
+    ensures { IfOk result (λ item. item ≡ spec.item_of_statement stmt) }
 {
-    match built(alloc, stmt)? {
-        Some(statement) => item_of_built(alloc, statement),
-        None => Ok(Item::Fail(not_built(alloc)?)),
+    match Settled::new(alloc, stmt) {
+        Ok(settled) => Ok(Item::Run(settled)),
+        Err(error) => item_of_error(alloc, error),
     }
 }
 
-/// The statement that the text spells, in the form in which it runs, or the error that it has.
+/// The settled statement that the text spells, or the error that it has.
 #[tactic(auto, using(crate::proofs::Sources::prepared_statement, crate::proofs::Sources::prepared_error))]
 pub fn prepare(alloc: Global, text: &[u8]) -> Result<Item, NoMemory>
     ensures { IfOk result (λ item. spec.IsPrepared text.now item) }
 {
+    what_is_read_is_proper();
     match read(alloc, text) {
-        Ok(stmt) => {
-            let item = item_of(alloc, &stmt);
-            drop(stmt);
-            item
-        }
+        Ok(stmt) => item_of(alloc, stmt),
         Err(error) => Ok(Item::Fail(error_text(alloc, text, error)?)),
     }
 }

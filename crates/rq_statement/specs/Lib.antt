@@ -1,4 +1,6 @@
+pub mod Bytes
 pub mod Fixed
+pub mod Items
 pub mod Settled
 pub mod Sights
 pub mod Unsettled

@@ -9,6 +9,7 @@ ghost use Rattle.rq_statement.specs.Unsettled.{IsUnsettled};
 use crate::fixed::is_fixed_statement;
 use rq_grammar::Stmt;
 use rq_print::{each_statement_is_written, printed};
+use rq_values::{NoMemory, TryCopy};
 use std::alloc::Global;
 use std::marker::Model;
 
@@ -92,6 +93,19 @@ impl Settled {
         ensures { result.now ≡ text_of self.now }
     {
         self.text.as_slice()
+    }
+}
+
+impl TryCopy for Settled {
+    fn copy(&self, alloc: Global) -> Result<Settled, NoMemory> {
+        let text = Vec::from_slice(alloc, self.text.as_slice())?;
+        match self.stmt.copy(alloc) {
+            Ok(stmt) => Ok(Settled { stmt, text }),
+            Err(error) => {
+                drop(text);
+                Err(error)
+            }
+        }
     }
 }
 

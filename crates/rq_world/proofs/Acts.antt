@@ -1,7 +1,7 @@
 -- Each act of a node is a turn of rq_raft, and so a list of moves.
 use Rattle.std.proofs.Common.{◌≡◌, ℕ, suc, zero, ◌&&◌, not, Bool, true, false, cond, List, [], ◌∷◌, length, ◌+◌, Option, Some, None, refl, ap, sym, subst, ◌∙◌}
 use Rattle.std.specs.Prelude.{◌==◌, nat_lt, nat_le, drop, bytes_eq, slice_get}
-use Rattle.rq_engine.specs.declared.item.Item.{Item}
+use Rattle.rq_statement.specs.declared.item.Item.{Item}
 use Rattle.rq_world.specs.declared.say.Say.TheVariants.{NoLeader, Stale, EntryTooLarge, QueuedTooLarge, Full}
 use Rattle.rq_engine.specs.Command.{execute_bytes}
 use Rattle.rq_world.specs.Commands.{strong_query_bytes}

@@ -1,7 +1,7 @@
 -- Each write that was answered has an index of its own.
 use Rattle.std.proofs.Common.{◌≡◌, ◌⊎◌, ◌<◌, ◌≤◌, ℕ, zero, suc, ◌+◌, ◌-◌, ◌&&◌, not, List, [], ◌∷◌, ◌++◌, length, take, slice_get, true, false, Option, Some, None, refl, sym, ◌∙◌, ap, subst, inl, inr, ⊎_elim, arith}
 use Rattle.std.specs.Prelude.{nat_lt, nat_le, bytes_eq}
-use Rattle.rq_engine.specs.declared.item.Item.{Item}
+use Rattle.rq_statement.specs.declared.item.Item.{Item}
 use Rattle.rq_world.specs.declared.say.Say.{Say}
 use Rattle.rq_world.specs.declared.say.Say.TheVariants.{NoLeader, Stale, EntryTooLarge, QueuedTooLarge, Full}
 use Rattle.rq_engine.specs.Command.{execute_bytes}

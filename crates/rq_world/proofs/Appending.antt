@@ -2,7 +2,7 @@
 use Rattle.std.proofs.Common.{◌≡◌, ◌⊎◌, ℕ, ◌+◌, List, [], ◌∷◌, ◌++◌, length, ◌&&◌, Bool, true, Some, None, refl, sym, ◌∙◌, ap, subst, inl, inr, ⊎_elim, arith}
 use Rattle.std.specs.Prelude.{nat_lt, nat_le, slice_get}
 use Rattle.std.proofs.lemmas.List.{length-append, length-take, append_cancel_left}
-use Rattle.rq_engine.specs.declared.item.Item.{Item}
+use Rattle.rq_statement.specs.declared.item.Item.{Item}
 use Rattle.rq_world.specs.declared.say.Say.TheVariants.{NoLeader, Stale, EntryTooLarge, QueuedTooLarge, Full}
 use Rattle.rq_engine.specs.Command.{execute_bytes}
 use Rattle.rq_world.specs.Commands.{strong_query_bytes}

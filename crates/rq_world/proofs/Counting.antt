@@ -1,8 +1,8 @@
 -- How often a number waits at a node, and how often it is answered: no act makes more of both together than there was, but for an ask's own number.
 use Rattle.std.proofs.Common.{◌≡◌, ◌≤◌, ℕ, zero, suc, ◌+◌, ◌&&◌, nat_eq, List, [], ◌∷◌, ◌++◌, length, map, take, drop, slice_get, Bool, true, false, cond, Option, Some, None, refl, arith}
 use Rattle.std.specs.Prelude.{nat_lt, nat_le, not, bytes_eq, ◌==◌}
-use Rattle.rq_engine.specs.declared.item.Item.{Item}
-use Rattle.rq_engine.specs.declared.command.Res.{Res}
+use Rattle.rq_statement.specs.declared.item.Item.{Item}
+use Rattle.rq_statement.specs.declared.res.Res.{Res}
 use Rattle.rq_engine.specs.Meaning.{answers}
 use Rattle.rq_engine.specs.Command.{execute_bytes}
 use Rattle.rq_wire.specs.declared.config.Member.{Member}

@@ -5,8 +5,8 @@ use Rattle.std.proofs.lemmas.List.{length-append}
 use Rattle.rq_wire.specs.declared.config.Member.{Member}
 use Rattle.rq_world.specs.declared.say.Say.{Say}
 use Rattle.rq_world.specs.declared.say.Say.TheVariants.{Results, Queued, NoLeader, Lost, Timeout, Stale, EntryTooLarge, QueuedTooLarge, Full}
-use Rattle.rq_engine.specs.declared.item.Item.{Item}
-use Rattle.rq_engine.specs.declared.command.Res.{Res}
+use Rattle.rq_statement.specs.declared.item.Item.{Item}
+use Rattle.rq_statement.specs.declared.res.Res.{Res}
 use Rattle.rq_world.specs.declared.say.Answer.{Answer}
 use Rattle.rq_engine.specs.Meaning.{answers}
 use Rattle.rq_world.specs.declared.log_entry.LogEntry.{LogEntry}

@@ -1,7 +1,7 @@
 -- Passes cover what was committed before them.
 use Rattle.std.proofs.Common.{◌≡◌, ◌⊎◌, ◌≤◌, ℕ, ◌+◌, ◌&&◌, not, List, [], ◌∷◌, length, Bool, slice_get, true, Option, Some, None, refl, sym, ◌∙◌, ap, subst, inl, arith}
 use Rattle.std.specs.Prelude.{nat_lt, nat_le, drop, bytes_eq}
-use Rattle.rq_engine.specs.declared.item.Item.{Item}
+use Rattle.rq_statement.specs.declared.item.Item.{Item}
 use Rattle.rq_world.specs.declared.say.Say.TheVariants.{NoLeader, Stale, EntryTooLarge, QueuedTooLarge, Full}
 use Rattle.rq_engine.specs.Command.{execute_bytes}
 use Rattle.rq_world.specs.Commands.{strong_query_bytes}

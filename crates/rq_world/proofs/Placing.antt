@@ -1,6 +1,6 @@
 -- Each acknowledged write has a place of its own.
 use Rattle.std.proofs.Common.{◌≡◌, ◌⊎◌, ℕ, ◌+◌, ◌-◌, List, [], ◌∷◌, ◌++◌, length, slice_get, true, Option, Some, None, refl, sym, ◌∙◌, ap, subst, inl, inr, ⊎_elim, arith}
-use Rattle.rq_engine.specs.declared.item.Item.{Item}
+use Rattle.rq_statement.specs.declared.item.Item.{Item}
 use Rattle.rq_world.specs.declared.say.Say.{Say}
 use Rattle.rq_history.specs.History.{NodeId}
 use Rattle.rq_history.specs.Laws.{LaterEntriesCover}

@@ -3,10 +3,10 @@ use Rattle.std.proofs.Common.{◌≡◌, ◌⊎◌, ◌<◌, ◌≤◌, ℕ, ◌
 use Rattle.std.specs.Prelude.{nat_lt, nat_le, nat_eq, bytes_eq, max}
 use Rattle.std.proofs.lemmas.Bool.{cases_lt}
 use Rattle.std.proofs.lemmas.List.{append-nil, length-take, length-take-le, take-take}
-use Rattle.rq_engine.specs.declared.item.Item.{Item}
+use Rattle.rq_statement.specs.declared.item.Item.{Item}
 use Rattle.rq_world.specs.declared.say.Say.{Say}
 use Rattle.rq_world.specs.declared.say.Say.TheVariants.{Results, Queued, NoLeader, Stale, EntryTooLarge, QueuedTooLarge, Full}
-use Rattle.rq_engine.specs.declared.command.Res.{Res}
+use Rattle.rq_statement.specs.declared.res.Res.{Res}
 use Rattle.rq_engine.specs.Database.{Database}
 use Rattle.rq_engine.specs.Command.{execute_bytes}
 use Rattle.rq_world.specs.Commands.{strong_query_bytes}

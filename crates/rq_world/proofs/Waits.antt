@@ -3,8 +3,8 @@ use Rattle.std.proofs.Common.{◌≡◌, ◌⊎◌, ◌<◌, ◌≤◌, ℕ, zer
 use Rattle.std.specs.Prelude.{⊤, nat_lt, map, drop}
 use Rattle.std.proofs.lemmas.List.{take-take}
 use Rattle.rq_wire.specs.declared.config.Member.{Member}
-use Rattle.rq_engine.specs.declared.item.Item.{Item}
-use Rattle.rq_engine.specs.declared.command.Res.{Res}
+use Rattle.rq_statement.specs.declared.item.Item.{Item}
+use Rattle.rq_statement.specs.declared.res.Res.{Res}
 use Rattle.rq_world.specs.declared.say.Say.TheVariants.{Results, Lost, Timeout}
 use Rattle.rq_world.specs.declared.say.Answer.{Answer}
 use Rattle.rq_engine.specs.Database.{Database}

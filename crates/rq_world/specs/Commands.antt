@@ -1,8 +1,8 @@
 -- How the commands of queries at level strong and of batches are spelled in the log.
 use Rattle.std.specs.Prelude.{ℕ, List, ◌∷◌}
 use Rattle.rq_values.specs.Spelling.{list_bytes}
-use Rattle.rq_engine.specs.declared.item.Item.{Item}
-use Rattle.rq_engine.specs.Command.{item_bytes}
+use Rattle.rq_statement.specs.declared.item.Item.{Item}
+use Rattle.rq_statement.specs.Bytes.{item_bytes}
 
 -- 03 and the items
 abbrev pub strong_query_bytes : List Item → List ℕ

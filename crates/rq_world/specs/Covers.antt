@@ -3,8 +3,8 @@ use Rattle.std.specs.Prelude.{ℕ, ◌≡◌, ◌≤◌, ◌<◌, nat_eq, if◌t
 use Rattle.rq_history.specs.History.{NodeId}
 use Rattle.rq_raft.specs.declared.role.Role.TheVariants.{Leader}
 use Rattle.rq_wire.specs.declared.config.Member.{Member}
-use Rattle.rq_engine.specs.declared.item.Item.{Item}
-use Rattle.rq_engine.specs.declared.command.Res.{Res}
+use Rattle.rq_statement.specs.declared.item.Item.{Item}
+use Rattle.rq_statement.specs.declared.res.Res.{Res}
 use Rattle.rq_world.specs.declared.say.Say.{Say}
 use Rattle.rq_world.specs.declared.say.Say.TheVariants.{Results}
 use Rattle.rq_world.specs.declared.level.Level.{Level}

@@ -1,6 +1,6 @@
 -- A node, and what a rule gives: docs/RAFT.md, "The node".
 use Rattle.std.specs.Prelude.{ℕ, Bool, min, List, [], ◌∷◌, length, None}
-use Rattle.rq_engine.specs.declared.item.Item.{Item}
+use Rattle.rq_statement.specs.declared.item.Item.{Item}
 use Rattle.rq_engine.specs.Database.{Database}
 use Rattle.rq_world.specs.declared.say.Say.{Say}
 use Rattle.rq_world.specs.declared.say.Answer.{Answer}

@@ -1,7 +1,7 @@
 -- What each run promises at each of its moments. docs/RAFT.md, "What a run promises".
 use Rattle.std.specs.Prelude.{◌≡◌, ◌≤◌, ◌-◌, if◌then◌else◌, nat_eq, ℕ, List, [], ◌∷◌, ◌++◌, length, take, slice_get, true, false, Option, Some, None, ⊤}
-use Rattle.rq_engine.specs.declared.item.Item.{Item}
-use Rattle.rq_engine.specs.declared.command.Res.{Res}
+use Rattle.rq_statement.specs.declared.item.Item.{Item}
+use Rattle.rq_statement.specs.declared.res.Res.{Res}
 use Rattle.rq_world.specs.declared.say.Say.{Say}
 use Rattle.rq_world.specs.declared.say.Say.TheVariants.{Results, Queued, NoLeader, Lost, Timeout, Stale, EntryTooLarge, QueuedTooLarge, Full}
 use Rattle.rq_engine.specs.Meaning.{answers}

@@ -1,6 +1,6 @@
 -- The world: its nodes, every packet ever sent, and the book of what was asked and answered. docs/RAFT.md, "The world".
 use Rattle.std.specs.Prelude.{ℕ, ◌+◌, ◌≡◌, ◌⊎◌, nat_lt, max, if◌then◌else◌, bytes_eq, Bool, Option, None, List, [], ◌∷◌, ◌++◌, length, take, fold, map, slice_get}
-use Rattle.rq_engine.specs.declared.item.Item.{Item}
+use Rattle.rq_statement.specs.declared.item.Item.{Item}
 use Rattle.rq_world.specs.declared.say.Say.{Say}
 use Rattle.rq_world.specs.declared.say.Answer.{Answer}
 use Rattle.rq_wire.specs.declared.config.Member.{Member}

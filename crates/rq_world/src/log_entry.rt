@@ -1,5 +1,5 @@
 //! Entries of the replicated log, as a node keeps them.
-use rq_engine::Item;
+use rq_statement::Item;
 use rq_values::Seq;
 
 /// What an entry holds.

@@ -1,5 +1,5 @@
 //! What a node says to an ask.
-use rq_engine::Res;
+use rq_statement::Res;
 use rq_values::Seq;
 
 /// What a node says to an ask.

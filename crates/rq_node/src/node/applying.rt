@@ -6,7 +6,9 @@ ghost use Rattle.rq_node.specs.Rules.{apply, applied_entry, answered, left_waiti
 use super::State;
 use crate::log_entry::Content;
 use crate::waiting::Waiting;
-use rq_engine::{Answer, Item, Res, Say, Tables};
+use rq_engine::Tables;
+use rq_request::{Answer, Say};
+use rq_statement::{Item, Res};
 use rq_values::{NoMemory, Seq};
 use std::alloc::Global;
 use std::collections::VecDeque;

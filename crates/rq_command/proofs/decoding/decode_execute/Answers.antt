@@ -4,9 +4,9 @@ use Rattle.rq_command.proofs.Told.{all_bytes, taken, found}
 use Rattle.rq_command.proofs.decoding.decode_execute.Goals as goal
 
 pub returns-clause-ok : goal.returns-clause-ok
-returns-clause-ok c = taken c.each_text_is_prepared.ensures.some MAX_COMMAND c.args.bytes.now (all_bytes c.args.bytes.now c.type_inv.bytes) c.decode_whole.result c.decode_whole.ensures
+returns-clause-ok c = taken c.each_text_is_read_as_one.ensures.some MAX_COMMAND c.args.bytes.now (all_bytes c.args.bytes.now c.type_inv.bytes) c.decode_whole.result c.decode_whole.ensures
 
 pub returns-clause-complete : goal.returns-clause-complete
 returns-clause-complete c =
     let small : MAX_COMMAND < 2 ^ 32 = omega arith in
-    found c.each_text_is_prepared.ensures.some MAX_COMMAND c.args.bytes.now (all_bytes c.args.bytes.now c.type_inv.bytes) c.each_text_is_prepared.ensures.one small c.decode_whole.result c.decode_whole.ensures
+    found c.each_text_is_read_as_one.ensures.some MAX_COMMAND c.args.bytes.now (all_bytes c.args.bytes.now c.type_inv.bytes) c.each_text_is_read_as_one.ensures.one c.settled_text_is_read.ensures.read small c.decode_whole.result c.decode_whole.ensures

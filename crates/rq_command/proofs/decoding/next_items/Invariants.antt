@@ -1,6 +1,6 @@
 use Rattle.std.proofs.Common.{◌≡◌, ◌-◌, ℕ, List}
 use Rattle.rq_values.specs.Reading.{many_at}
-use Rattle.rq_engine.specs.declared.item.Item.{Item}
+use Rattle.rq_statement.specs.declared.item.Item.{Item}
 use Rattle.rq_command.specs.Reading.{IsPreparing, item_at}
 use Rattle.rq_command.proofs.Loop.{with_front}
 use Rattle.rq_command.proofs.decoding.next_items.Given as goal

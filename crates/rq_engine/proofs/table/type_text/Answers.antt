@@ -8,3 +8,6 @@ known_text-requires c = is_text-from_plain (codes "integer") refl
 
 pub known_text-requires-in-Text : goal.known_text-requires-in-Text
 known_text-requires-in-Text c = is_text-from_plain (codes "text") refl
+
+pub known_text-requires-in-Blob : goal.known_text-requires-in-Blob
+known_text-requires-in-Blob c = is_text-from_plain (codes "blob") refl

@@ -1,6 +1,6 @@
 use Rattle.std.proofs.Common.{[], ◌++◌, List, ◌≡◌, inl, Err, ◌∙◌, sym, ap, subst, refl}
 use Rattle.std.proofs.lemmas.List.{append-nil}
-use Rattle.rq_engine.specs.declared.say.Answer.{Answer}
+use Rattle.rq_request.specs.declared.say.Answer.{Answer}
 use Rattle.rq_node.specs.Node.{Node}
 use Rattle.rq_node.specs.Rules as rules_of
 use Rattle.rq_node.specs.Sound.{AreReadable}

@@ -1,9 +1,9 @@
 use Rattle.std.proofs.Common.{[], ◌∷◌, ◌++◌, ◌*◌, ℕ, ◌≡◌, inl, Option, Err, length, ◌∙◌, sym, ap, subst, refl}
 use Rattle.std.proofs.lemmas.List.{append-nil}
 use Rattle.rq_outside.specs.Pair.{arm_of, UsedCalls}
-use Rattle.rq_engine.specs.declared.say.Answer.{Answer}
+use Rattle.rq_request.specs.declared.say.Answer.{Answer}
 use Rattle.std.specs.Prelude.{MatchOption}
-use Rattle.rq_engine.specs.declared.say.Say.{Say}
+use Rattle.rq_request.specs.declared.say.Say.{Say}
 use Rattle.rq_node.specs.Node.{Node, Turn, says}
 use Rattle.rq_node.specs.Rules.{taken_up}
 use Rattle.rq_node.specs.Rules as rules_of

@@ -1,5 +1,5 @@
 use Rattle.std.proofs.Common.{refl, List, ℕ, Some, ◌≡◌, ◌+◌}
-use Rattle.rq_engine.specs.declared.item.Item.{Item}
+use Rattle.rq_statement.specs.declared.item.Item.{Item}
 use Rattle.rq_json.specs.Body.{texts_of}
 use Rattle.rq_script.specs.Preparing.{AreRead}
 use Rattle.rq_script.specs.ScriptLine as lines

@@ -3,8 +3,8 @@ use Rattle.std.specs.Map.{lookup, set_value}
 use Rattle.std.specs.BTreeMap.{is_at}
 use Rattle.std.proofs.lemmas.Int.{to_z-of_z}
 use Rattle.rq_values.specs.declared.value.Value.{Value}
-use Rattle.rq_engine.specs.declared.statement.Column.{Column}
-use Rattle.rq_engine.specs.declared.command.Res.TheVariants as res
+use Rattle.rq_grammar.specs.declared.stmt.ColumnDef.{ColumnDef}
+use Rattle.rq_statement.specs.declared.res.Res.TheVariants as res
 use Rattle.rq_engine.specs.Database as db
 use Rattle.rq_engine.specs.Meaning as spec
 use Rattle.rq_engine.proofs.Statements.{inserted_is, inserted_full, inserted_refused, inserted_size, gives_error}
@@ -33,7 +33,7 @@ returns-in-None c =
     ∙ sym c.in-Some.ensures.value in
     let same : c.self.inside.size + db.row_size c.columns.result.now c.as_slice.result.now ≡ db.tables_size d + db.row_size t.columns c.in-Some-2.row =
     ap (λ (n : ℕ). n + db.row_size c.columns.result.now c.as_slice.result.now) (c.self.invariant.0 ∙ ap db.tables_size c.self.view_is)
-    ∙ ap (λ (cs : List Column). db.tables_size d + db.row_size cs c.as_slice.result.now) c.columns.ensures
+    ∙ ap (λ (cs : List ColumnDef). db.tables_size d + db.row_size cs c.as_slice.result.now) c.columns.ensures
     ∙ ap (λ (vs : List Value). db.tables_size d + db.row_size t.columns vs) c.as_slice.ensures in
     let new : spec.new_row t c.args.columns.now c.args.values.now ≡ Some (c.in-Some-2.rowid, c.in-Some-2.row) = cc (c.in_ok-rowid.ensures, c.in-Some-2.is) in
     gives_error _ d spec.not_built _ (inserted_full d name c.args.columns.now c.args.values.now t (c.in-Some-2.rowid, c.in-Some-2.row) there new (λ h. c.in-None.ensures (subst (λ (n : ℕ). n ≤ db.size_limit) (sym same) h))) c.in_ok-unbuilt-in-None.ensures
@@ -49,7 +49,7 @@ invariant_of-self-in-Some-with_row_size c =
     ∙ sym c.in-Some.ensures.value in
     let same : c.self.inside.size + db.row_size c.columns.result.now c.as_slice.result.now ≡ db.tables_size d + db.row_size t.columns c.in-Some-2.row =
     ap (λ (n : ℕ). n + db.row_size c.columns.result.now c.as_slice.result.now) (c.self.invariant.0 ∙ ap db.tables_size c.self.view_is)
-    ∙ ap (λ (cs : List Column). db.tables_size d + db.row_size cs c.as_slice.result.now) c.columns.ensures
+    ∙ ap (λ (cs : List ColumnDef). db.tables_size d + db.row_size cs c.as_slice.result.now) c.columns.ensures
     ∙ ap (λ (vs : List Value). db.tables_size d + db.row_size t.columns vs) c.as_slice.ensures in
     let new : spec.new_row t c.args.columns.now c.args.values.now ≡ Some (c.in-Some-2.rowid, c.in-Some-2.row) = cc (c.in_ok-rowid.ensures, c.in-Some-2.is) in
     let fits : FitsSigned w64 c.in-Some-2.rowid = search rules in
@@ -73,7 +73,7 @@ returns c =
     ∙ sym c.in-Some.ensures.value in
     let same : c.self.inside.size + db.row_size c.columns.result.now c.as_slice.result.now ≡ db.tables_size d + db.row_size t.columns c.in-Some-2.row =
     ap (λ (n : ℕ). n + db.row_size c.columns.result.now c.as_slice.result.now) (c.self.invariant.0 ∙ ap db.tables_size c.self.view_is)
-    ∙ ap (λ (cs : List Column). db.tables_size d + db.row_size cs c.as_slice.result.now) c.columns.ensures
+    ∙ ap (λ (cs : List ColumnDef). db.tables_size d + db.row_size cs c.as_slice.result.now) c.columns.ensures
     ∙ ap (λ (vs : List Value). db.tables_size d + db.row_size t.columns vs) c.as_slice.ensures in
     let new : spec.new_row t c.args.columns.now c.args.values.now ≡ Some (c.in-Some-2.rowid, c.in-Some-2.row) = cc (c.in_ok-rowid.ensures, c.in-Some-2.is) in
     let fits : FitsSigned w64 c.in-Some-2.rowid = search rules in

@@ -1,5 +1,5 @@
 use Rattle.std.proofs.Common.{◌≤◌, ◌<◌, ◌-◌, ◌∙◌, List, [], length, sym, ap, subst, arith}
-use Rattle.rq_engine.specs.declared.say.Answer.{Answer}
+use Rattle.rq_request.specs.declared.say.Answer.{Answer}
 use Rattle.rq_node.specs.Node.{Node, Turn}
 use Rattle.rq_node.specs.Rules.{apply, apply_times}
 use Rattle.rq_node.proofs.NodeSteps.{times_go_on, falls_by_one, times_none}

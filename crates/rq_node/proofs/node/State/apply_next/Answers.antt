@@ -1,5 +1,5 @@
 use Rattle.std.proofs.Common.{◌++◌, ◌∙◌, List, sym, ap}
-use Rattle.rq_engine.specs.declared.item.Item.{Item}
+use Rattle.rq_statement.specs.declared.item.Item.{Item}
 use Rattle.rq_engine.specs.Meaning.{executed}
 use Rattle.rq_node.specs.Node.{Turn}
 use Rattle.rq_node.specs.contracts.node.State.{the_view}
