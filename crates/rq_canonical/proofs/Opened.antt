@@ -25,9 +25,9 @@ use Rattle.rq_grammar.specs.declared.stmt.Stmt.TheVariants as stmt
 use Rattle.rq_grammar.specs.Words.{Text, Tokens}
 use Rattle.rq_grammar.specs.Depth.{most, depth_step, depth, depths, maybe_depth, item_depth, term_depth, order_depth, set_depth, select_depth, deepest, most_open}
 use Rattle.rq_grammar.specs.Print as P
-use Rattle.rq_grammar.specs.Print.{Front, front_step, front, tokens_of}
+use Rattle.rq_grammar.specs.Print.{Front, prefix_step, prefix, tokens_of}
 
--- where d more parentheses may be open, the tokens in front open no more than may be open
+-- where d more parentheses may be open, the tokens before it open no more than may be open
 abbrev Opens : ℕ → Front → Type 0
 Opens d f = (n m : ℕ) (y : Tokens) → n + d ≤ m → most_open n y ≤ m → most_open n (f y) ≤ m
 
@@ -56,24 +56,24 @@ literal_opens (v.Text x) n m y le rest = omega arith
 literal_opens (v.Blob x) n m y le rest = omega arith
 
 abbrev Item : Type 0
-Item = (a : Expr) × Opens (2 * depth a) (front a)
+Item = (a : Expr) × Opens (2 * depth a) (prefix a)
 
 abbrev bare_of : List Item → List Expr
 bare_of = map (λ i. i.0)
 
-more_open : (es : List Item) → Opens (2 * most (map depth (bare_of es))) (P.more (map front (bare_of es)))
+more_open : (es : List Item) → Opens (2 * most (map depth (bare_of es))) (P.more (map prefix (bare_of es)))
 more_open [] n m y le rest = rest
 more_open (i ∷ es) n m y le rest =
     let behind = more_open es n m y (omega arith) rest in
-    let first = i.1 n m (P.more (map front (bare_of es)) y) (omega arith) behind in
+    let first = i.1 n m (P.more (map prefix (bare_of es)) y) (omega arith) behind in
     omega arith
 
-list_opens : (es : List Item) → Opens (2 * most (map depth (bare_of es))) (P.commas (map front (bare_of es)))
+list_opens : (es : List Item) → Opens (2 * most (map depth (bare_of es))) (P.commas (map prefix (bare_of es)))
 list_opens [] n m y le rest = rest
-list_opens (i ∷ es) n m y le rest = i.1 n m (P.more (map front (bare_of es)) y) (omega arith) (more_open es n m y (omega arith) rest)
+list_opens (i ∷ es) n m y le rest = i.1 n m (P.more (map prefix (bare_of es)) y) (omega arith) (more_open es n m y (omega arith) rest)
 
 -- one layer of an expression
-layer : (x : Expr-F Item) → Opens (2 * depth_step (map-Expr Expr ℕ depth (map-Expr Item Expr (λ i. i.0) x))) (front_step (map-Expr Expr Front front (map-Expr Item Expr (λ i. i.0) x)))
+layer : (x : Expr-F Item) → Opens (2 * depth_step (map-Expr Expr ℕ depth (map-Expr Item Expr (λ i. i.0) x))) (prefix_step (map-Expr Expr Front prefix (map-Expr Item Expr (λ i. i.0) x)))
 layer (Expr-F.Literal a) n m y le rest = literal_opens a n m y (omega arith) rest
 layer (Expr-F.Param x) n m y le rest = omega arith
 layer (Expr-F.Name x) n m y le rest = omega arith
@@ -95,33 +95,33 @@ layer (Expr-F.Not a) n m y le rest =
     omega arith
 layer (Expr-F.Binary o a b) n m y le rest =
     let right = b.1 (suc n) m (t.Close ∷ y) (omega arith) (closes n m y (omega arith) rest) in
-    let middle = operator_opens o (suc n) m (front b.0 (t.Close ∷ y)) (omega arith) right in
-    let left = a.1 (suc n) m (P.operator o (front b.0 (t.Close ∷ y))) (omega arith) middle in
+    let middle = operator_opens o (suc n) m (prefix b.0 (t.Close ∷ y)) (omega arith) right in
+    let left = a.1 (suc n) m (P.operator o (prefix b.0 (t.Close ∷ y))) (omega arith) middle in
     omega arith
 layer (Expr-F.InList d a es) n m y le rest =
     let last = closes (suc n) m (t.Close ∷ y) (omega arith) (closes n m y (omega arith) rest) in
     let list = list_opens es (suc (suc n)) m (t.Close ∷ t.Close ∷ y) (omega arith) last in
-    let behind = P.word (codes "IN") w.In ∷ t.Open ∷ P.commas (map front (bare_of es)) (t.Close ∷ t.Close ∷ y) in
+    let behind = P.word (codes "IN") w.In ∷ t.Open ∷ P.commas (map prefix (bare_of es)) (t.Close ∷ t.Close ∷ y) in
     let middle = denial_opens d (suc n) m behind (omega arith) (omega arith) in
     let left = a.1 (suc n) m (P.denial d behind) (omega arith) middle in
     omega arith
 layer (Expr-F.Between d a b c) n m y le rest =
     let high = c.1 (suc n) m (t.Close ∷ y) (omega arith) (closes n m y (omega arith) rest) in
-    let upper = P.word (codes "AND") w.And ∷ front c.0 (t.Close ∷ y) in
+    let upper = P.word (codes "AND") w.And ∷ prefix c.0 (t.Close ∷ y) in
     let low = b.1 (suc n) m upper (omega arith) (omega arith) in
-    let behind = P.word (codes "BETWEEN") w.Between ∷ front b.0 upper in
+    let behind = P.word (codes "BETWEEN") w.Between ∷ prefix b.0 upper in
     let middle = denial_opens d (suc n) m behind (omega arith) (omega arith) in
     let left = a.1 (suc n) m (P.denial d behind) (omega arith) middle in
     omega arith
 
-whole : (x : Expr-F Item) → Opens (2 * depth (roll-Expr (map-Expr Item Expr (λ i. i.0) x))) (front (roll-Expr (map-Expr Item Expr (λ i. i.0) x)))
+whole : (x : Expr-F Item) → Opens (2 * depth (roll-Expr (map-Expr Item Expr (λ i. i.0) x))) (prefix (roll-Expr (map-Expr Item Expr (λ i. i.0) x)))
 whole x n m y le rest =
     let z = map-Expr Item Expr (λ i. i.0) x in
-    subst (λ (f : Front). most_open n (f y) ≤ m) (sym (fold-roll-Expr Front front_step z))
+    subst (λ (f : Front). most_open n (f y) ≤ m) (sym (fold-roll-Expr Front prefix_step z))
     (layer x n m y (subst (λ (d : ℕ). n + 2 * d ≤ m) (fold-roll-Expr ℕ depth_step z) le) rest)
 
-expr_opens : (a : Expr) → Opens (2 * depth a) (front a)
-expr_opens = ind-Expr (λ a. Opens (2 * depth a) (front a)) (λ x y is. subst (λ x. Opens (2 * depth (roll-Expr x)) (front (roll-Expr x))) is (whole y))
+expr_opens : (a : Expr) → Opens (2 * depth a) (prefix a)
+expr_opens = ind-Expr (λ a. Opens (2 * depth a) (prefix a)) (λ x y is. subst (λ x. Opens (2 * depth (roll-Expr x)) (prefix (roll-Expr x))) is (whole y))
 
 -- ---- what has no parenthesis of its own
 
@@ -195,7 +195,7 @@ names_open (Some ns) n m y le rest =
 -- ---- the parts of a statement whose expressions are at most k deep
 
 module _ (k : ℕ) where
-  deep : (a : Expr) → depth a ≤ k → Opens (2 * k) (front a)
+  deep : (a : Expr) → depth a ≤ k → Opens (2 * k) (prefix a)
   deep a h n m y le rest = expr_opens a n m y (omega arith) rest
 
   some_more : {A : Type 0} (size : A → ℕ) (d : ℕ) (tok : A → Front) → ((a : A) → size a ≤ k → Opens d (tok a)) → (xs : List A) → most (map size xs) ≤ k → Opens d (P.more (map tok xs))
@@ -244,7 +244,7 @@ module _ (k : ℕ) where
 
   row_opens : (xs : List Expr) → depths xs ≤ k → Opens (suc (2 * k)) (P.row xs)
   row_opens xs h n m y le rest =
-      let list = some_open depth (2 * k) front deep xs h (suc n) m (t.Close ∷ y) (omega arith) (closes n m y (omega arith) rest) in
+      let list = some_open depth (2 * k) prefix deep xs h (suc n) m (t.Close ∷ y) (omega arith) (closes n m y (omega arith) rest) in
       omega arith
 
   set_opens : (i : Text × Expr) → set_depth i ≤ k → Opens (2 * k) (P.set i)

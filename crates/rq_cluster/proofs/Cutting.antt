@@ -4,7 +4,7 @@ use Rattle.std.proofs.lemmas.List.{append-nil}
 use Rattle.std.proofs.lemmas.Bool.{cases_eq}
 use Rattle.rq_script.specs.Cluster.{Cluster, first_cluster, Steps, IsOutside}
 use Rattle.rq_script.specs.Lines.{Line, drop_cr, lines_by, last_line, lines_of, IsOver}
-use Rattle.rq_cluster.specs.Play.{BrokenOff}
+use Rattle.rq_cluster.specs.Outcome.{BrokenOff}
 use Rattle.rq_script.specs.Runs.{Runs, StopsAt}
 use Rattle.rq_cluster.specs.Feed.{After, PartOf, IsBetween, HasNoLineEnd}
 
@@ -59,17 +59,17 @@ module _ (read text : List ℕ) (w : Cluster) (number : ℕ) (held : List ℕ) (
   pub between : (rest : List ℕ) → IsBetween w (lines_of (read ++ rest)) text
   between rest = (s.lines, lines_by last_line count held rest, s.cut last_line rest, s.runs)
 
-  pub broken_before : (Kept : Cluster → Type 0) (rest : List ℕ) → Kept w → BrokenOff (lines_of (read ++ rest)) Kept text
-  broken_before Kept rest kept = BrokenOff.before s.lines (lines_by last_line count held rest) text w (s.cut last_line rest) s.runs kept
+  pub broken_before : (Stays : Cluster → Type 0) (rest : List ℕ) → Stays w → BrokenOff (lines_of (read ++ rest)) Stays text
+  broken_before Stays rest kept = BrokenOff.before s.lines (lines_by last_line count held rest) text w (s.cut last_line rest) s.runs kept
 
   -- the line that is held is broken off
-  pub line_broken : (Kept : Cluster → Type 0) (rest out : List ℕ) → count + 1 ≤ 67108864 → PartOf Kept w (drop_cr held) out → BrokenOff (lines_of (read ++ 10 ∷ rest)) Kept (text ++ out)
-  line_broken Kept rest _ far (PartOf.none kept) = subst (BrokenOff (lines_of (read ++ 10 ∷ rest)) Kept) (sym (append-nil text)) (broken_before Kept (10 ∷ rest) kept)
-  line_broken Kept rest _ far (PartOf.within reached fits reach kept) = subst (BrokenOff (lines_of (read ++ 10 ∷ rest)) Kept) (sym (append-nil text))
+  pub line_broken : (Stays : Cluster → Type 0) (rest out : List ℕ) → count + 1 ≤ 67108864 → PartOf Stays w (drop_cr held) out → BrokenOff (lines_of (read ++ 10 ∷ rest)) Stays (text ++ out)
+  line_broken Stays rest _ far (PartOf.none kept) = subst (BrokenOff (lines_of (read ++ 10 ∷ rest)) Stays) (sym (append-nil text)) (broken_before Stays (10 ∷ rest) kept)
+  line_broken Stays rest _ far (PartOf.within reached fits reach kept) = subst (BrokenOff (lines_of (read ++ 10 ∷ rest)) Stays) (sym (append-nil text))
       (BrokenOff.within s.lines (ended held count) (lines_by last_line (count + 1) [] rest) text w reached (s.cut last_line (10 ∷ rest) ∙ ap (λ (ls : List Line). s.lines ++ ls) (at_end last_line count held rest)) s.runs
       (record { line_fits = fits; script_fits = far }) reach kept)
-  line_broken Kept rest _ far (PartOf.writing front said next fits step pre kept) =
-      BrokenOff.writing s.lines (ended held count) (lines_by last_line (count + 1) [] rest) text w front said next (s.cut last_line (10 ∷ rest) ∙ ap (λ (ls : List Line). s.lines ++ ls) (at_end last_line count held rest)) s.runs
+  line_broken Stays rest _ far (PartOf.writing prefix said next fits step pre kept) =
+      BrokenOff.writing s.lines (ended held count) (lines_by last_line (count + 1) [] rest) text w prefix said next (s.cut last_line (10 ∷ rest) ∙ ap (λ (ls : List Line). s.lines ++ ls) (at_end last_line count held rest)) s.runs
       (record { line_fits = fits; script_fits = far }) step pre kept
 
 -- a line is as long as what is held of it, but for a CR

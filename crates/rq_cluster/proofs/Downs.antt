@@ -15,40 +15,40 @@ use Rattle.rq_wal.specs.Later.{DeviceRose}
 use Rattle.rq_node.specs.declared.node.Node.{Node as RunningNode}
 use Rattle.rq_node.specs.declared.log_entry.LogEntry.{LogEntry}
 use Rattle.rq_node.specs.Files.{first_base, stored_of}
-use Rattle.rq_node.specs.Node.{Node, Kept, Durable, Vote, Splice, Boot, Turn, kept_of, kept_with, kept_after}
-use Rattle.rq_node.specs.Sound.{AreReadable, IsKeptReadable}
-use Rattle.rq_node.specs.Standing.{IsOpen, Stands, CanBeRead, IsItemReadable, IsBroken}
+use Rattle.rq_node.specs.Node.{Node, Persistent, StoredRecord, Vote, Splice, Boot, Turn, persistent_of, persistent_with, persistent_after}
+use Rattle.rq_node.specs.Sound.{AreReadable, IsPersistentReadable}
+use Rattle.rq_node.specs.Recovery.{IsOpen, Stands, CanBeRead, IsItemReadable, IsBroken}
 use Rattle.rq_script.specs.Cluster.{Stand, Down, Armed, Server, Course, needed, passes, gone_down, numbers}
 use Rattle.rq_script.specs.ScriptText.{down_text}
 use Rattle.rq_cluster.specs.Acting.{Act, event, Crashed, HasStruck}
 use Rattle.rq_cluster.specs.declared.arming.Arming.{Arming}
 use Rattle.rq_cluster.specs.declared.host.Host.{Host}
-use Rattle.rq_cluster.specs.Shown.{ShowsServer, ShowsStand, IsArmed, LetsPass, Goes, armed_of}
-use Rattle.rq_cluster.specs.Standing.{Rises, StandsAs, ServerStands}
+use Rattle.rq_cluster.specs.Refines.{ShowsServer, ShowsStand, IsArmed, LetsPass, Goes, armed_of}
+use Rattle.rq_cluster.specs.Recovery.{Rises, StandsAs, ServerStands}
 use Rattle.rq_cluster.proofs.Pairs.{LogsStand, open_stands, SameDisks, NoFewer, fewer_same, rises_on, rises_more}
 use Rattle.rq_cluster.proofs.Results.{on_ok_map}
 use Rattle.rq_cluster.proofs.Turns.{node_shown, lets_some, failing, striking, turn_failed, turn_struck}
 
 -- ---- what can be read
 
-readable_with : (kept : Kept) (item : Durable) → AreReadable kept.log → IsItemReadable item → AreReadable (kept_with kept item).log
+readable_with : (kept : Persistent) (item : StoredRecord) → AreReadable kept.log → IsItemReadable item → AreReadable (persistent_with kept item).log
 readable_with kept (Vote term vote) log item = log
 readable_with kept (Splice from entries) log item =
-    let P = λ (entry : LogEntry). IsKeptReadable entry.content in
+    let P = λ (entry : LogEntry). IsPersistentReadable entry.content in
     All-append P (take (from - 1) kept.log) entries (All-take P (from - 1) kept.log log) item
 readable_with kept (Boot boot) log item = log
 
-pub readable_after : (items : List Durable) (kept : Kept) → AreReadable kept.log → All IsItemReadable items → AreReadable (kept_after kept items).log
+pub readable_after : (items : List StoredRecord) (kept : Persistent) → AreReadable kept.log → All IsItemReadable items → AreReadable (persistent_after kept items).log
 readable_after [] kept log all = log
 readable_after (item ∷ items) kept log all =
-    readable_after items (kept_with kept item) (readable_with kept item log (All-head IsItemReadable item items all)) (All-tail IsItemReadable item items all)
+    readable_after items (persistent_with kept item) (readable_with kept item log (All-head IsItemReadable item items all)) (All-tail IsItemReadable item items all)
 
 -- ---- crashes
 
 module _ {D F : Type 0} (told : Bool) (means : D → DiskMeaning) where
   -- after a crash it is settled how many of the things stand
-  pub settled : (old new : DiskPair D F) (id : List ℕ) (kept : Kept) (items : List Durable) → IsTrue told → Crashed told means old new → Stands told means old id kept items
-      → (k : ℕ) × Stands told means new id (kept_after kept (take k items)) []
+  pub settled : (old new : DiskPair D F) (id : List ℕ) (kept : Persistent) (items : List StoredRecord) → IsTrue told → Crashed told means old new → Stands told means old id kept items
+      → (k : ℕ) × Stands told means new id (persistent_after kept (take k items)) []
   settled old new id kept items tells crashed stands =
       let one = (means (disk_at new One)).content in
       let two = (means (disk_at new Two)).content in
@@ -62,7 +62,7 @@ module _ {D F : Type 0} (told : Bool) (means : D → DiskMeaning) where
       )
     where
       pair_reads : List ℕ → List ℕ → Type 0
-      pair_reads a b = pair_gives (first_base id) a b ≡ Ok (stored_of id (kept_after kept (take (stands tells (means (disk_at new One)).content (means (disk_at new Two)).content (crashed.image tells One) (crashed.image tells Two)).0 items)))
+      pair_reads a b = pair_gives (first_base id) a b ≡ Ok (stored_of id (persistent_after kept (take (stands tells (means (disk_at new One)).content (means (disk_at new Two)).content (crashed.image tells One) (crashed.image tells Two)).0 items)))
 
   pub fewer_crashed : (old new : DiskPair D F) → Crashed told means old new → NoFewer told means old new
   fewer_crashed old new crashed =
@@ -83,8 +83,8 @@ module _ {D F : Type 0} (told : Bool) (means : D → DiskMeaning) where
     pub armed : next.armed ≡ None
     pub lost : next.lost ≡ s.lost ++ waiting
     pub counted : next.failures ≡ failures
-    pub kept : Kept
-    pub rest : List Durable
+    pub kept : Persistent
+    pub rest : List StoredRecord
     pub stand : next.stand ≡ Down kept rest
     pub stands : Stands told means new s.id kept rest
     pub readable : CanBeRead kept rest
@@ -134,9 +134,9 @@ module _ {D F : Type 0} (told : Bool) (means : D → DiskMeaning) where
   module _ (start old : DiskPair D F) (from : Host) (s : Server) (shows : ShowsServer told means start old from s)
       (mid broke new : DiskPair D F) (node : RunningNode) (rule : Node → Turn) (asked : List ℕ)
       (same : SameDisks old mid) (lets : LetsPass told means mid s.armed) (later : NoFewer told means mid broke)
-      (runs : from.node ≡ Some node) (small : length (rule node.state).durable ≤ 2)
-      (broken : IsBroken told means mid broke node.state.id (kept_of node.state) (rule node.state).durable)
-      (readable : CanBeRead (kept_of node.state) (rule node.state).durable)
+      (runs : from.node ≡ Some node) (small : length (rule node.state).records ≤ 2)
+      (broken : IsBroken told means mid broke node.state.id (persistent_of node.state) (rule node.state).records)
+      (readable : CanBeRead (persistent_of node.state) (rule node.state).records)
       (crashed : HasStruck (arm_of broke) from.armed → Crashed told means broke new) (untouched : (HasStruck (arm_of broke) from.armed → ⊥) → new ≡ broke) where
     was : Rises told means s.failures start mid
     was = rises_on told means s.failures start old mid shows.rises (fewer_same told means old mid same)
@@ -151,19 +151,19 @@ module _ {D F : Type 0} (told : Bool) (means : D → DiskMeaning) where
         let same_pair = untouched not_struck in
         record {
           course = failing;
-          next = record (gone_down s n (kept_of n) (rule n).durable asked) { failures = s.failures + 1 };
-          is = turn_failed s n rule asked broken.first broken.more shown.stand (ap (λ (t : Turn). t.durable) (sym turn) ∙ broken.some);
+          next = record (gone_down s n (persistent_of n) (rule n).records asked) { failures = s.failures + 1 };
+          is = turn_failed s n rule asked broken.first broken.more shown.stand (ap (λ (t : Turn). t.records) (sym turn) ∙ broken.some);
           id = refl;
           armed = refl;
           lost = ap (λ (m : Node). s.lost ++ (numbers m.waiting ++ asked)) (sym shown.state);
           counted = refl;
-          kept = kept_of n;
-          rest = (rule n).durable;
+          kept = persistent_of n;
+          rest = (rule n).records;
           stand = refl;
-          stands = subst (λ (p : DiskPair D F). Stands told means p s.id (kept_of n) (rule n).durable) (sym same_pair)
-              (subst (λ (i : List ℕ). Stands told means broke i (kept_of n) (rule n).durable) shown.named
-              (subst (λ (m : Node). Stands told means broke m.id (kept_of m) (rule m).durable) shown.state broken.stands));
-          readable = subst (λ (m : Node). CanBeRead (kept_of m) (rule m).durable) shown.state readable;
+          stands = subst (λ (p : DiskPair D F). Stands told means p s.id (persistent_of n) (rule n).records) (sym same_pair)
+              (subst (λ (i : List ℕ). Stands told means broke i (persistent_of n) (rule n).records) shown.named
+              (subst (λ (m : Node). Stands told means broke m.id (persistent_of m) (rule m).records) shown.state broken.stands));
+          readable = subst (λ (m : Node). CanBeRead (persistent_of m) (rule m).records) shown.state readable;
           rises = subst (λ (p : DiskPair D F). Rises told means (s.failures + 1) start p) (sym same_pair) (rises_more told means s.failures start mid broke was later device);
           arm = λ struck. no_stop (ap arm_of (sym same_pair) ∙ struck);
         }
@@ -176,27 +176,27 @@ module _ {D F : Type 0} (told : Bool) (means : D → DiskMeaning) where
         let n = shown.n in
         let turn : rule node.state ≡ rule n = ap rule shown.state in
         let crash = crashed struck in
-        let short : a.calls < 4 * length (rule node.state).durable = subst (λ (m : Arm). IsShort (4 * length (rule node.state).durable) m) (lets_some told means mid s.armed lets a is) (broken.struck stopped) in
-        let short_n : a.calls < needed (rule n).durable = subst (λ (t : Turn). a.calls < 4 * length t.durable) turn short in
-        let not_le : nat_le (needed (rule n).durable) a.calls ≡ false = grind (arith, nat_tests, short_n) in
-        let blocked : passes s.armed (needed (rule n).durable) ≡ false = ap (λ (o : Option Armed). passes o (needed (rule n).durable)) is ∙ not_le in
-        let stood = subst (λ (i : List ℕ). Stands told means broke i (kept_of n) (rule n).durable) shown.named
-        (subst (λ (m : Node). Stands told means broke m.id (kept_of m) (rule m).durable) shown.state broken.stands) in
-        let settle = settled broke new s.id (kept_of n) (rule n).durable shows.tells crash stood in
-        let reads = subst (λ (m : Node). CanBeRead (kept_of m) (rule m).durable) shown.state readable in
+        let short : a.calls < 4 * length (rule node.state).records = subst (λ (m : Arm). IsShort (4 * length (rule node.state).records) m) (lets_some told means mid s.armed lets a is) (broken.struck stopped) in
+        let short_n : a.calls < needed (rule n).records = subst (λ (t : Turn). a.calls < 4 * length t.records) turn short in
+        let not_le : nat_le (needed (rule n).records) a.calls ≡ false = grind (arith, nat_tests, short_n) in
+        let blocked : passes s.armed (needed (rule n).records) ≡ false = ap (λ (o : Option Armed). passes o (needed (rule n).records)) is ∙ not_le in
+        let stood = subst (λ (i : List ℕ). Stands told means broke i (persistent_of n) (rule n).records) shown.named
+        (subst (λ (m : Node). Stands told means broke m.id (persistent_of m) (rule m).records) shown.state broken.stands) in
+        let settle = settled broke new s.id (persistent_of n) (rule n).records shows.tells crash stood in
+        let reads = subst (λ (m : Node). CanBeRead (persistent_of m) (rule m).records) shown.state readable in
         record {
           course = striking settle.0;
-          next = gone_down s n (kept_after (kept_of n) (take settle.0 (rule n).durable)) [] asked;
-          is = turn_struck s n rule asked broken.first broken.more settle.0 shown.stand (ap (λ (t : Turn). t.durable) (sym turn) ∙ broken.some) blocked;
+          next = gone_down s n (persistent_after (persistent_of n) (take settle.0 (rule n).records)) [] asked;
+          is = turn_struck s n rule asked broken.first broken.more settle.0 shown.stand (ap (λ (t : Turn). t.records) (sym turn) ∙ broken.some) blocked;
           id = refl;
           armed = refl;
           lost = ap (λ (m : Node). s.lost ++ (numbers m.waiting ++ asked)) (sym shown.state);
           counted = refl;
-          kept = kept_after (kept_of n) (take settle.0 (rule n).durable);
+          kept = persistent_after (persistent_of n) (take settle.0 (rule n).records);
           rest = [];
           stand = refl;
           stands = settle.1;
-          readable = (readable_after (take settle.0 (rule n).durable) (kept_of n) reads.0 (All-take IsItemReadable settle.0 (rule n).durable reads.1), all_none);
+          readable = (readable_after (take settle.0 (rule n).records) (persistent_of n) reads.0 (All-take IsItemReadable settle.0 (rule n).records reads.1), all_none);
           rises = rises_on told means s.failures start mid new was (fewer_on mid broke new later (fewer_crashed broke new crash));
           arm = λ stop. (let e : Off ≡ Struck = sym crash.arm ∙ stop in absurd (cc));
         }
@@ -212,7 +212,7 @@ module _ {D F : Type 0} (told : Bool) (means : D → DiskMeaning) where
     no_line : s.armed ≡ None → arm_of broke ≡ Struck → ⊥
     no_line none struck =
         let passing : arm_of mid ≡ Passes (2 ^ 64 - 1) = subst (λ (o : Option Armed). LetsPass told means mid o) none lets in
-        let short : 2 ^ 64 - 1 < 4 * length (rule node.state).durable = subst (λ (m : Arm). IsShort (4 * length (rule node.state).durable) m) passing (broken.struck struck) in
+        let short : 2 ^ 64 - 1 < 4 * length (rule node.state).records = subst (λ (m : Arm). IsShort (4 * length (rule node.state).records) m) passing (broken.struck struck) in
         omega (arith, short, small)
 
     device_of : (arm_of broke ≡ Struck → ⊥) → DeviceRose means mid broke
@@ -295,6 +295,6 @@ module _ {D F : Type 0} (told : Bool) (means : D → DiskMeaning) where
       → from.node ≡ Some node → after.state ≡ node.state → IsOpen told means new after → NoFewer told means old new → ServerStands told means start new (Some s)
   turn_stands law start old from s shows new node after runs same opened later =
       let shown = node_shown told means start old from s shows node runs in
-      let stood : Stands told means new s.id (kept_of shown.n) [] = subst (λ (i : List ℕ). Stands told means new i (kept_of shown.n) []) shown.named
-      (subst (λ (m : Node). Stands told means new m.id (kept_of m) []) (same ∙ shown.state) (open_stands told means law new after opened)) in
+      let stood : Stands told means new s.id (persistent_of shown.n) [] = subst (λ (i : List ℕ). Stands told means new i (persistent_of shown.n) []) shown.named
+      (subst (λ (m : Node). Stands told means new m.id (persistent_of m) []) (same ∙ shown.state) (open_stands told means law new after opened)) in
       (subst (λ (st : Stand). StandsAs told means new s.id st) (sym shown.stand) stood, rises_on told means s.failures start old new shows.rises later)

@@ -10,7 +10,7 @@ use Rattle.rq_outside.specs.Pair.{arm_of, disk_at}
 use Rattle.rq_wal.specs.Replace.{in_header, generation_of}
 use Rattle.std.proofs.lemmas.List.Elements.{All-push}
 use Rattle.rq_cluster.specs.EmptyPairs.{IsMade, AreMade}
-use Rattle.rq_cluster.specs.Standing.{IsNew}
+use Rattle.rq_cluster.specs.Recovery.{IsNew}
 
 empty_is_closed : generation_of [] ≡ None
 unfolding in_header

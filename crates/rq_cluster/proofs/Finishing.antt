@@ -5,7 +5,7 @@ use Rattle.std.proofs.lemmas.List.{append-nil}
 use Rattle.rq_script.specs.Cluster.{Cluster, Steps, IsOutside}
 use Rattle.rq_script.specs.Lines.{Line, lines_by, last_line, lines_of, whole_lines}
 use Rattle.rq_cluster.specs.LastLines.{LastLine}
-use Rattle.rq_cluster.specs.Play.{Took, Ends, BrokenOff, Reached, Wrote}
+use Rattle.rq_cluster.specs.Outcome.{Took, Ends, BrokenOff, Reached, Wrote}
 use Rattle.rq_script.specs.Runs.{Runs, StopsAt}
 use Rattle.rq_cluster.specs.Feed.{After, PartOf, AtEnd}
 use Rattle.rq_cluster.proofs.Cutting.{at_last}
@@ -44,60 +44,60 @@ module _ (read text : List ℕ) (w : Cluster) (number : ℕ) (held : List ℕ) (
   out_some some out = subst (λ (n : ℕ). StopsAt (lines_of read) n text w) (sym s.number_is)
       (StopsAt.at_line s.lines (record { text = held; upto = count }) [] text w (some_lines some) s.runs (⊎_elim (λ long. inl (inl long)) (λ o. inr o) out))
 
-  pub part_some : (Kept : Cluster → Type 0) (out : List ℕ) → 0 < length held → count ≤ 67108864 → PartOf Kept w held out → BrokenOff (lines_of read) Kept (text ++ out)
-  part_some Kept _ some far (PartOf.none kept) = subst (BrokenOff (lines_of read) Kept) (sym (append-nil text)) (BrokenOff.before s.lines (last_line count held) text w (all_lines last_line) s.runs kept)
-  part_some Kept _ some far (PartOf.within reached fits reach kept) = subst (BrokenOff (lines_of read) Kept) (sym (append-nil text))
+  pub part_some : (Stays : Cluster → Type 0) (out : List ℕ) → 0 < length held → count ≤ 67108864 → PartOf Stays w held out → BrokenOff (lines_of read) Stays (text ++ out)
+  part_some Stays _ some far (PartOf.none kept) = subst (BrokenOff (lines_of read) Stays) (sym (append-nil text)) (BrokenOff.before s.lines (last_line count held) text w (all_lines last_line) s.runs kept)
+  part_some Stays _ some far (PartOf.within reached fits reach kept) = subst (BrokenOff (lines_of read) Stays) (sym (append-nil text))
       (BrokenOff.within s.lines (record { text = held; upto = count }) [] text w reached (some_lines some) s.runs (record { line_fits = fits; script_fits = far }) reach kept)
-  part_some Kept _ some far (PartOf.writing front said next fits step pre kept) =
-      BrokenOff.writing s.lines (record { text = held; upto = count }) [] text w front said next (some_lines some) s.runs (record { line_fits = fits; script_fits = far }) step pre kept
+  part_some Stays _ some far (PartOf.writing prefix said next fits step pre kept) =
+      BrokenOff.writing s.lines (record { text = held; upto = count }) [] text w prefix said next (some_lines some) s.runs (record { line_fits = fits; script_fits = far }) step pre kept
 
 pub map_took : (told : Bool) (t0 t1 : List ℕ) (A B : List ℕ → Type 0) → ((out : List ℕ) → A out → B out) → Took told t0 t1 A → Took told t0 t1 B
 map_took told t0 t1 A B f (out, took, a) = (out, took, f out a)
 
 -- whatever the files keep
-any_files : (bytes left : List ℕ) (Failed : Type 0) (Kept : Cluster → Type 0) (status : ℕ) (text last : List ℕ) → Ends bytes left Failed Kept status text last → Ends bytes left Failed (λ _. ⊤) status text last
-any_files bytes left Failed Kept _ _ _ (Ends.done text w runs begun kept) = Ends.done text w runs begun tt
-any_files bytes left Failed Kept _ _ _ (Ends.outside n text w stops kept) = Ends.outside n text w stops tt
-any_files bytes left Failed Kept _ _ _ (Ends.fault read text w failed is runs kept) = Ends.fault read text w failed is runs tt
+any_files : (bytes left : List ℕ) (Failed : Type 0) (Stays : Cluster → Type 0) (status : ℕ) (text last : List ℕ) → Ends bytes left Failed Stays status text last → Ends bytes left Failed (λ _. ⊤) status text last
+any_files bytes left Failed Stays _ _ _ (Ends.done text w runs begun kept) = Ends.done text w runs begun tt
+any_files bytes left Failed Stays _ _ _ (Ends.outside n text w stops kept) = Ends.outside n text w stops tt
+any_files bytes left Failed Stays _ _ _ (Ends.fault read text w failed is runs kept) = Ends.fault read text w failed is runs tt
 
-module _ (bytes left : List ℕ) (Failed : Type 0) (Kept : Cluster → Type 0) where
+module _ (bytes left : List ℕ) (Failed : Type 0) (Stays : Cluster → Type 0) where
   -- a last line behind the text of the lines done
-  pub with_last : (status : ℕ) (line text : List ℕ) (r : ℕ) (out : List ℕ) → Ends bytes left Failed Kept status text line → LastLine status line r out → Wrote bytes left Failed Kept r (text ++ out)
+  pub with_last : (status : ℕ) (line text : List ℕ) (r : ℕ) (out : List ℕ) → Ends bytes left Failed Stays status text line → LastLine status line r out → Wrote bytes left Failed Stays r (text ++ out)
   with_last status line text _ _ ends LastLine.whole = Wrote.all status text line ends
   with_last status line text _ _ ends (LastLine.sink out pre) =
-      Wrote.sink (text ++ out) (status, text, line, any_files bytes left Failed Kept status text line ends, (pre.0, append_assoc text out pre.0 ∙ ap (λ (l : List ℕ). text ++ l) pre.1)) (Reached.in_last status text line out ends pre)
+      Wrote.sink (text ++ out) (status, text, line, any_files bytes left Failed Stays status text line ends, (pre.0, append_assoc text out pre.0 ∙ ap (λ (l : List ℕ). text ++ l) pre.1)) (Reached.in_last status text line out ends pre)
   with_last status line text _ _ ends (LastLine.memory out pre) =
-      Wrote.memory (text ++ out) (status, text, line, any_files bytes left Failed Kept status text line ends, (pre.0, append_assoc text out pre.0 ∙ ap (λ (l : List ℕ). text ++ l) pre.1)) (Reached.in_last status text line out ends pre)
+      Wrote.memory (text ++ out) (status, text, line, any_files bytes left Failed Stays status text line ends, (pre.0, append_assoc text out pre.0 ∙ ap (λ (l : List ℕ). text ++ l) pre.1)) (Reached.in_last status text line out ends pre)
 
   -- lines, and then a last line
-  pub finished : (told : Bool) (t0 t1 t2 : List ℕ) (status : ℕ) (line text : List ℕ) (r : ℕ) → Took told t0 t1 (λ out. Ends bytes left Failed Kept status (text ++ out) line) → Took told t1 t2 (LastLine status line r)
-      → Took told t0 t2 (λ out. Wrote bytes left Failed Kept r (text ++ out))
+  pub finished : (told : Bool) (t0 t1 t2 : List ℕ) (status : ℕ) (line text : List ℕ) (r : ℕ) → Took told t0 t1 (λ out. Ends bytes left Failed Stays status (text ++ out) line) → Took told t1 t2 (LastLine status line r)
+      → Took told t0 t2 (λ out. Wrote bytes left Failed Stays r (text ++ out))
   finished told t0 t1 t2 status line text r (x, first, ends) (y, second, last) = (
     x ++ y,
     (λ t. second t ∙ ap (λ (l : List ℕ). l ++ y) (first t) ∙ append_assoc t0 x y),
-    subst (λ (o : List ℕ). Wrote bytes left Failed Kept r o) (append_assoc text x y) (with_last status line (text ++ x) r y ends last),
+    subst (λ (o : List ℕ). Wrote bytes left Failed Stays r o) (append_assoc text x y) (with_last status line (text ++ x) r y ends last),
   )
 
-  pub cut_sink : Readable → (out : List ℕ) → BrokenOff (lines_of bytes) Kept out → Wrote bytes left Failed Kept 5 out
-  cut_sink readable out broken = Wrote.sink out (cut_short readable bytes left Failed out (cut_of (lines_of bytes) Kept out broken)) (Reached.in_lines out broken)
+  pub cut_sink : Readable → (out : List ℕ) → BrokenOff (lines_of bytes) Stays out → Wrote bytes left Failed Stays 5 out
+  cut_sink readable out broken = Wrote.sink out (cut_short readable bytes left Failed out (cut_of (lines_of bytes) Stays out broken)) (Reached.in_lines out broken)
 
-  pub cut_memory : Readable → (out : List ℕ) → BrokenOff (lines_of bytes) Kept out → Wrote bytes left Failed Kept 6 out
-  cut_memory readable out broken = Wrote.memory out (cut_short readable bytes left Failed out (cut_of (lines_of bytes) Kept out broken)) (Reached.in_lines out broken)
+  pub cut_memory : Readable → (out : List ℕ) → BrokenOff (lines_of bytes) Stays out → Wrote bytes left Failed Stays 6 out
+  cut_memory readable out broken = Wrote.memory out (cut_short readable bytes left Failed out (cut_of (lines_of bytes) Stays out broken)) (Reached.in_lines out broken)
 
 -- without a fault of the source
-wider_ends : (bytes left : List ℕ) (Failed : Type 0) (Kept : Cluster → Type 0) (status : ℕ) (text last : List ℕ) → Ends bytes [] ⊥ Kept status text last → Ends bytes left Failed Kept status text last
-wider_ends bytes left Failed Kept _ _ _ (Ends.done text w runs begun kept) = Ends.done text w runs begun kept
-wider_ends bytes left Failed Kept _ _ _ (Ends.outside n text w stops kept) = Ends.outside n text w stops kept
-wider_ends bytes left Failed Kept _ _ _ (Ends.fault read text w failed is runs kept) = absurd failed
+wider_ends : (bytes left : List ℕ) (Failed : Type 0) (Stays : Cluster → Type 0) (status : ℕ) (text last : List ℕ) → Ends bytes [] ⊥ Stays status text last → Ends bytes left Failed Stays status text last
+wider_ends bytes left Failed Stays _ _ _ (Ends.done text w runs begun kept) = Ends.done text w runs begun kept
+wider_ends bytes left Failed Stays _ _ _ (Ends.outside n text w stops kept) = Ends.outside n text w stops kept
+wider_ends bytes left Failed Stays _ _ _ (Ends.fault read text w failed is runs kept) = absurd failed
 
-wider_reached : (bytes left : List ℕ) (Failed : Type 0) (Kept : Cluster → Type 0) (out : List ℕ) → Reached bytes [] ⊥ Kept out → Reached bytes left Failed Kept out
-wider_reached bytes left Failed Kept _ (Reached.in_lines out broken) = Reached.in_lines out broken
-wider_reached bytes left Failed Kept _ (Reached.in_last status text last front ends pre) = Reached.in_last status text last front (wider_ends bytes left Failed Kept status text last ends) pre
+wider_reached : (bytes left : List ℕ) (Failed : Type 0) (Stays : Cluster → Type 0) (out : List ℕ) → Reached bytes [] ⊥ Stays out → Reached bytes left Failed Stays out
+wider_reached bytes left Failed Stays _ (Reached.in_lines out broken) = Reached.in_lines out broken
+wider_reached bytes left Failed Stays _ (Reached.in_last status text last prefix ends pre) = Reached.in_last status text last prefix (wider_ends bytes left Failed Stays status text last ends) pre
 
-pub wider : (bytes left : List ℕ) (Failed : Type 0) (Kept : Cluster → Type 0) (status : ℕ) (out : List ℕ) → Wrote bytes [] ⊥ Kept status out → Wrote bytes left Failed Kept status out
-wider bytes left Failed Kept _ _ (Wrote.all status text last ends) = Wrote.all status text last (wider_ends bytes left Failed Kept status text last ends)
-wider bytes left Failed Kept _ _ (Wrote.sink out (k, text, last, ends, pre) reached) = Wrote.sink out (k, text, last, wider_ends bytes left Failed (λ _. ⊤) k text last ends, pre) (wider_reached bytes left Failed Kept out reached)
-wider bytes left Failed Kept _ _ (Wrote.memory out (k, text, last, ends, pre) reached) = Wrote.memory out (k, text, last, wider_ends bytes left Failed (λ _. ⊤) k text last ends, pre) (wider_reached bytes left Failed Kept out reached)
+pub wider : (bytes left : List ℕ) (Failed : Type 0) (Stays : Cluster → Type 0) (status : ℕ) (out : List ℕ) → Wrote bytes [] ⊥ Stays status out → Wrote bytes left Failed Stays status out
+wider bytes left Failed Stays _ _ (Wrote.all status text last ends) = Wrote.all status text last (wider_ends bytes left Failed Stays status text last ends)
+wider bytes left Failed Stays _ _ (Wrote.sink out (k, text, last, ends, pre) reached) = Wrote.sink out (k, text, last, wider_ends bytes left Failed (λ _. ⊤) k text last ends, pre) (wider_reached bytes left Failed Stays out reached)
+wider bytes left Failed Stays _ _ (Wrote.memory out (k, text, last, ends, pre) reached) = Wrote.memory out (k, text, last, wider_ends bytes left Failed (λ _. ⊤) k text last ends, pre) (wider_reached bytes left Failed Stays out reached)
 
 -- one script part after another
 pub after_took : (told : Bool) (t0 t1 t2 : List ℕ) (A B : List ℕ → Type 0) → Took told t0 t1 A → ((out : List ℕ) → A out → Took told t1 t2 (λ more. B (out ++ more))) → Took told t0 t2 B

@@ -7,7 +7,7 @@ mod Hosts
 mod Lists
 mod Pairs
 mod Pieces
-mod Quiet
+mod Unchanged
 mod Readings
 mod Results
 mod Rules

@@ -1,4 +1,4 @@
--- Fronts of lists.
+-- Prefixes of lists.
 use Rattle.std.proofs.Common.{◌≡◌, ◌≢◌, ◌+◌, ℕ, zero, suc, List, [], ◌∷◌, ◌++◌, take, drop, get_or, length, nat_eq, true, false, refl, sym, ap, ◌∙◌, arith}
 use Rattle.rq_script.specs.Lines.{drop_cr}
 

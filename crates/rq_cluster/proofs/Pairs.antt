@@ -17,9 +17,9 @@ use Rattle.rq_wal.specs.Log.{IsLog}
 use Rattle.rq_wal.specs.WalFile.{wal_file, wal_end, wal_generation}
 use Rattle.rq_node.specs.declared.node.Node.{Node as RunningNode}
 use Rattle.rq_node.specs.Files.{first_base, stored_of}
-use Rattle.rq_node.specs.Node.{Kept, Durable, kept_of}
-use Rattle.rq_node.specs.Standing.{Stands, HasFile, IsOpen, IsSomeOf}
-use Rattle.rq_cluster.specs.Standing.{Rises}
+use Rattle.rq_node.specs.Node.{Persistent, StoredRecord, persistent_of}
+use Rattle.rq_node.specs.Recovery.{Stands, HasFile, IsOpen, IsSomeOf}
+use Rattle.rq_cluster.specs.Recovery.{Rises}
 
 -- both disks are as before
 abbrev pub SameDisks : {D F : Type 0} → DiskPair D F → DiskPair D F → Type 0
@@ -41,7 +41,7 @@ module _ {D F : Type 0} (told : Bool) (means : D → DiskMeaning) where
   each_same first old new P (one, two) each = λ a b in_one in_two.
       each a b (subst (λ (d : D). (means d).images a) one in_one) (subst (λ (d : D). (means d).images b) two in_two)
 
-  pub stands_same : (old new : DiskPair D F) (id : List ℕ) (kept : Kept) (items : List Durable) → SameDisks old new → Stands told means old id kept items → Stands told means new id kept items
+  pub stands_same : (old new : DiskPair D F) (id : List ℕ) (kept : Persistent) (items : List StoredRecord) → SameDisks old new → Stands told means old id kept items → Stands told means new id kept items
   stands_same old new id kept items same stands = λ tells. each_same (first_base id) old new (IsSomeOf id kept items) same (stands tells)
 
   current_same : (first : Base) (old new : DiskPair D F) (wal : WalFile) (stored : Stored) → ((file : FileNo) → disk_at old file ≡ disk_at new file) → IsCurrent means first old wal stored → IsCurrent means first new wal stored
@@ -56,19 +56,19 @@ module _ {D F : Type 0} (told : Bool) (means : D → DiskMeaning) where
   at_files old new (one, two) One = sym one
   at_files old new (one, two) Two = sym two
 
-  file_same : (old new : DiskPair D F) (id : List ℕ) (kept : Kept) (file : Option WalFile) → SameDisks old new → HasFile told means old id kept file → HasFile told means new id kept file
+  file_same : (old new : DiskPair D F) (id : List ℕ) (kept : Persistent) (file : Option WalFile) → SameDisks old new → HasFile told means old id kept file → HasFile told means new id kept file
   file_same old new id kept None same has = has
   file_same old new id kept (Some wal) same has = λ tells. current_same (first_base id) old new wal (stored_of id kept) (at_files old new same) (has tells)
 
   pub open_same : (old new : DiskPair D F) (node : RunningNode) → SameDisks old new → IsOpen told means old node → IsOpen told means new node
-  open_same old new node same has = file_same old new node.state.id (kept_of node.state) node.file same has
+  open_same old new node same has = file_same old new node.state.id (persistent_of node.state) node.file same has
 
-  file_stands : LogsStand F means → (pair : DiskPair D F) (id : List ℕ) (kept : Kept) (file : Option WalFile) → HasFile told means pair id kept file → Stands told means pair id kept []
+  file_stands : LogsStand F means → (pair : DiskPair D F) (id : List ℕ) (kept : Persistent) (file : Option WalFile) → HasFile told means pair id kept file → Stands told means pair id kept []
   file_stands law pair id kept None has = absurd has
   file_stands law pair id kept (Some wal) has = λ tells a b in_one in_two. (0, law (first_base id) pair wal (stored_of id kept) (has tells) a b in_one in_two)
 
-  pub open_stands : LogsStand F means → (pair : DiskPair D F) (node : RunningNode) → IsOpen told means pair node → Stands told means pair node.state.id (kept_of node.state) []
-  open_stands law pair node opened = file_stands law pair node.state.id (kept_of node.state) node.file opened
+  pub open_stands : LogsStand F means → (pair : DiskPair D F) (node : RunningNode) → IsOpen told means pair node → Stands told means pair node.state.id (persistent_of node.state) []
+  open_stands law pair node opened = file_stands law pair node.state.id (persistent_of node.state) node.file opened
 
   -- ---- counts
 

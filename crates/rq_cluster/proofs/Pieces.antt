@@ -8,10 +8,10 @@ use Rattle.rq_script.specs.Lines.{Line, drop_cr, lines_of}
 use Rattle.rq_script.specs.Runs.{StopsAt}
 use Rattle.rq_cluster.specs.declared.progress.Progress.{Progress}
 use Rattle.rq_cluster.specs.declared.world.World.{World}
-use Rattle.rq_cluster.specs.Play.{Took, BrokenOff}
+use Rattle.rq_cluster.specs.Outcome.{Took, BrokenOff}
 use Rattle.rq_cluster.specs.Feed.{After, IsAfter, PartOf, StopsKept, GoesOn, Stopped}
-use Rattle.rq_cluster.specs.Shown.{Shows}
-use Rattle.rq_cluster.specs.Standing.{Holds}
+use Rattle.rq_cluster.specs.Refines.{Shows}
+use Rattle.rq_cluster.specs.Recovery.{Holds}
 use Rattle.rq_cluster.proofs.Cutting.{line_out, line_done, line_broken, broken_before}
 
 -- nothing more was written
@@ -26,8 +26,8 @@ module _ (read text : List ℕ) (c : Cluster) (number : ℕ) (held : List ℕ) (
   pub end_outside : (rest : List ℕ) → (2097152 < length line) ⊎ IsOutside c line → StopsAt (lines_of (read ++ 10 ∷ rest)) number text c
   end_outside rest out = line_out read text c number held count s rest (⊎_elim (λ long. inl (inl (subst (λ (l : List ℕ). 2097152 < length l) is long))) (λ o. inr (subst (IsOutside c) is o)) out)
 
-  pub end_part : (Kept : Cluster → Type 0) (rest out : List ℕ) → count + 1 ≤ 67108864 → PartOf Kept c line out → BrokenOff (lines_of (read ++ 10 ∷ rest)) Kept (text ++ out)
-  end_part Kept rest out within part = line_broken read text c number held count s Kept rest out within (subst (λ (l : List ℕ). PartOf Kept c l out) is part)
+  pub end_part : (Stays : Cluster → Type 0) (rest out : List ℕ) → count + 1 ≤ 67108864 → PartOf Stays c line out → BrokenOff (lines_of (read ++ 10 ∷ rest)) Stays (text ++ out)
+  end_part Stays rest out within part = line_broken read text c number held count s Stays rest out within (subst (λ (l : List ℕ). PartOf Stays c l out) is part)
 
 joined : (told : Bool) (t0 t1 t2 x y : List ℕ) → (IsTrue told → t1 ≡ t0 ++ x) → (IsTrue told → t2 ≡ t1 ++ y) → IsTrue told → t2 ≡ t0 ++ (x ++ y)
 joined told t0 t1 t2 x y first second t = second t ∙ ap (λ (l : List ℕ). l ++ y) (first t) ∙ append_assoc t0 x y
@@ -99,14 +99,14 @@ error_of e (Ok _) = e
 pub of_other : {A B E : Type 0} (e d : E) → IsErrOf {T = A} (Err e) d → IsErrOf {T = B} (Err e) d
 of_other e d is = ap Err (ap (error_of e) is)
 
--- a front of a piece, and the rest of it with what follows
-pub front_rest : (n : ℕ) (piece rest : List ℕ) → take n piece ++ (drop n piece ++ rest) ≡ piece ++ rest
-front_rest n piece rest = sym (append_assoc (take n piece) (drop n piece) rest) ∙ ap (λ (l : List ℕ). l ++ rest) (take-append-drop n piece)
+-- a prefix of a piece, and the rest of it with what follows
+pub prefix_rest : (n : ℕ) (piece rest : List ℕ) → take n piece ++ (drop n piece ++ rest) ≡ piece ++ rest
+prefix_rest n piece rest = sym (append_assoc (take n piece) (drop n piece) rest) ∙ ap (λ (l : List ℕ). l ++ rest) (take-append-drop n piece)
 
 -- a line, its LF, and what follows
 pub line_rest : (n : ℕ) (piece rest : List ℕ) → n < length piece → get_or piece n 0 ≡ 10 → take n piece ++ (10 ∷ (drop (n + 1) piece ++ rest)) ≡ piece ++ rest
 line_rest n piece rest lt is =
-    ap (λ (b : ℕ). take n piece ++ (b ∷ (drop (n + 1) piece ++ rest))) (sym is) ∙ ap (λ (l : List ℕ). take n piece ++ (l ++ rest)) (sym (drop_more piece n 0 lt)) ∙ front_rest n piece rest
+    ap (λ (b : ℕ). take n piece ++ (b ∷ (drop (n + 1) piece ++ rest))) (sym is) ∙ ap (λ (l : List ℕ). take n piece ++ (l ++ rest)) (sym (drop_more piece n 0 lt)) ∙ prefix_rest n piece rest
 
-pub line_front : (n : ℕ) (piece : List ℕ) → n < length piece → get_or piece n 0 ≡ 10 → take n piece ++ 10 ∷ [] ≡ take (n + 1) piece
-line_front n piece lt is = ap (λ (b : ℕ). take n piece ++ b ∷ []) (sym is) ∙ sym (take_more piece n 0 lt)
+pub line_prefix : (n : ℕ) (piece : List ℕ) → n < length piece → get_or piece n 0 ≡ 10 → take n piece ++ 10 ∷ [] ≡ take (n + 1) piece
+line_prefix n piece lt is = ap (λ (b : ℕ). take n piece ++ b ∷ []) (sym is) ∙ sym (take_more piece n 0 lt)

@@ -8,41 +8,41 @@ use Rattle.rq_engine.specs.Command.{execute_bytes}
 use Rattle.rq_node.specs.declared.log_entry.LogEntry.{LogEntry}
 use Rattle.rq_node.specs.declared.log_entry.Content.{Content}
 use Rattle.rq_node.specs.declared.log_entry.Content.TheVariants.{NoOp, Execute}
-use Rattle.rq_node.specs.Node.{Node, Vote, Turn, quiet, says, kept_of}
+use Rattle.rq_node.specs.Node.{Node, Vote, Turn, unchanged, says, persistent_of}
 use Rattle.rq_node.specs.Rules.{elect, led, risen, entry_in, splice_of, execute, execute_sized, taken_up, is_leader}
-use Rattle.rq_node.specs.Sound.{AreReadable, IsKeptReadable, IsReadable, most_bytes}
-use Rattle.rq_node.specs.Standing.{CanBeRead, IsItemReadable}
+use Rattle.rq_node.specs.Sound.{AreReadable, IsPersistentReadable, IsReadable, most_bytes}
+use Rattle.rq_node.specs.Recovery.{CanBeRead, IsItemReadable}
 
 pub elect_named : (n : Node) → (elect n).node.id ≡ n.id
 elect_named n = by (is_leader n.role || (n.term == 2 ^ 64 - 1))
   where
-    by : (b : Bool) → (if b then quiet n else led n).node.id ≡ n.id
+    by : (b : Bool) → (if b then unchanged n else led n).node.id ≡ n.id
     by true = refl
     by false = refl
 
-pub elect_small : (n : Node) → length (elect n).durable ≤ 2
+pub elect_small : (n : Node) → length (elect n).records ≤ 2
 elect_small n = by (is_leader n.role || (n.term == 2 ^ 64 - 1))
   where
-    by : (b : Bool) → length (if b then quiet n else led n).durable ≤ 2
+    by : (b : Bool) → length (if b then unchanged n else led n).records ≤ 2
     by true = omega arith
     by false = omega arith
 
 none_read : All IsItemReadable []
 none_read = All-nil IsItemReadable
 
-one_read : (entry : LogEntry) → IsKeptReadable entry.content → AreReadable (entry ∷ [])
-one_read entry reads = All-cons (λ (e : LogEntry). IsKeptReadable e.content) entry [] reads (All-nil (λ (e : LogEntry). IsKeptReadable e.content))
+one_read : (entry : LogEntry) → IsPersistentReadable entry.content → AreReadable (entry ∷ [])
+one_read entry reads = All-cons (λ (e : LogEntry). IsPersistentReadable e.content) entry [] reads (All-nil (λ (e : LogEntry). IsPersistentReadable e.content))
 
-splice_read : (n : Node) (content : Content) → IsKeptReadable content → All IsItemReadable (splice_of n content ∷ [])
+splice_read : (n : Node) (content : Content) → IsPersistentReadable content → All IsItemReadable (splice_of n content ∷ [])
 splice_read n content reads = All-cons IsItemReadable (splice_of n content) [] (one_read (entry_in n content) reads) none_read
 
-no_op_read : (n : Node) → All IsItemReadable (led n).durable
+no_op_read : (n : Node) → All IsItemReadable (led n).records
 no_op_read n = All-cons IsItemReadable (Vote (n.term + 1) (Some n.id)) (splice_of (risen n) NoOp ∷ []) tt (splice_read (risen n) NoOp tt)
 
-pub elect_reads : (n : Node) → AreReadable n.log → CanBeRead (kept_of n) (elect n).durable
+pub elect_reads : (n : Node) → AreReadable n.log → CanBeRead (persistent_of n) (elect n).records
 elect_reads n log = (log, by (is_leader n.role || (n.term == 2 ^ 64 - 1)))
   where
-    by : (b : Bool) → All IsItemReadable (if b then quiet n else led n).durable
+    by : (b : Bool) → All IsItemReadable (if b then unchanged n else led n).records
     by true = none_read
     by false = no_op_read n
 
@@ -63,11 +63,11 @@ module _ (P : Turn → Type 0) (n : Node) (number : ℕ) (items : List Item) (re
 pub execute_named : (number : ℕ) (items : List Item) (n : Node) → (execute n number items).node.id ≡ n.id
 execute_named number items n = execute_by (λ (t : Turn). t.node.id ≡ n.id) n number items refl refl (λ _. refl)
 
-pub execute_small : (n : Node) (number : ℕ) (items : List Item) → length (execute n number items).durable ≤ 2
-execute_small n number items = execute_by (λ (t : Turn). length t.durable ≤ 2) n number items (omega arith) (omega arith) (λ _. omega arith)
+pub execute_small : (n : Node) (number : ℕ) (items : List Item) → length (execute n number items).records ≤ 2
+execute_small n number items = execute_by (λ (t : Turn). length t.records ≤ 2) n number items (omega arith) (omega arith) (λ _. omega arith)
 
-list_reads : (n : Node) (number : ℕ) (items : List Item) → All IsReadable items → length (execute_bytes items) ≤ most_bytes → All IsItemReadable (taken_up n number items).durable
+list_reads : (n : Node) (number : ℕ) (items : List Item) → All IsReadable items → length (execute_bytes items) ≤ most_bytes → All IsItemReadable (taken_up n number items).records
 list_reads n number items all fits = splice_read n (Execute items) (all, fits)
 
-pub execute_reads : (n : Node) (number : ℕ) (items : List Item) → AreReadable n.log → All IsReadable items → CanBeRead (kept_of n) (execute n number items).durable
-execute_reads n number items log all = (log, execute_by (λ (t : Turn). All IsItemReadable t.durable) n number items none_read none_read (list_reads n number items all))
+pub execute_reads : (n : Node) (number : ℕ) (items : List Item) → AreReadable n.log → All IsReadable items → CanBeRead (persistent_of n) (execute n number items).records
+execute_reads n number items log all = (log, execute_by (λ (t : Turn). All IsItemReadable t.records) n number items none_read none_read (list_reads n number items all))

@@ -7,7 +7,7 @@ use Rattle.rq_outside.specs.declared.pair.DiskPair.{DiskPair}
 use Rattle.rq_outside.specs.Disk.{DiskMeaning}
 use Rattle.rq_statement.specs.declared.item.Item.{Item}
 use Rattle.rq_json.specs.Body.{texts_of}
-use Rattle.rq_node.specs.Node.{Node, Kept, Durable, Turn}
+use Rattle.rq_node.specs.Node.{Node, Persistent, StoredRecord, Turn}
 use Rattle.rq_node.specs.Rules.{elect, execute, query, apply}
 use Rattle.rq_script.specs.Cluster.{Stand, Running, Down, Server, Cluster, Course, Written, at_server, event_at, ask_at, named, done, happens_at, stops, arms, starts, shown, whole}
 use Rattle.rq_script.specs.Preparing.{listed, statements, AreRead}
@@ -15,8 +15,8 @@ use Rattle.rq_script.specs.ScriptLine.{Line, Skip, Elect, Apply, Execute, Query,
 use Rattle.rq_cluster.specs.Acting.{Act, event, start as start_act, stop as stop_act, arm as arm_act}
 use Rattle.rq_cluster.specs.declared.host.Host.{Host}
 use Rattle.rq_cluster.specs.declared.world.World.{World}
-use Rattle.rq_cluster.specs.Shown.{ShowsServer, ShowsHost, ShowsCluster, Goes, BreaksOff, Leads, DoesLine, BreaksLine}
-use Rattle.rq_cluster.specs.Standing.{ServerStands}
+use Rattle.rq_cluster.specs.Refines.{ShowsServer, ShowsHost, ShowsCluster, Goes, BreaksOff, Leads, DoesLine, BreaksLine}
+use Rattle.rq_cluster.specs.Recovery.{ServerStands}
 use Rattle.rq_cluster.proofs.Turns.{node_shown, down_shown}
 
 unnot : (b : Bool) → false ≡ not b → b ≡ true
@@ -64,7 +64,7 @@ arm_is : (calls pick : ℕ) (course : Course) (s : Server) (n : Node) → s.stan
 arm_is calls pick course s n is =
     ap (λ (st : Stand). arms calls pick (record s { stand = st })) is ∙ sym (ap (λ (st : Stand). Some (arm_act calls pick course (record s { stand = st }))) is)
 
-start_is : (course : Course) (s : Server) (kept : Kept) (rest : List Durable) → s.stand ≡ Down kept rest → starts course s ≡ Some (start_act course s)
+start_is : (course : Course) (s : Server) (kept : Persistent) (rest : List StoredRecord) → s.stand ≡ Down kept rest → starts course s ≡ Some (start_act course s)
 start_is course s kept rest is =
     ap (λ (st : Stand). starts course (record s { stand = st })) is ∙ sym (ap (λ (st : Stand). Some (start_act course (record s { stand = st }))) is)
 

@@ -10,16 +10,16 @@ use Rattle.rq_wal.specs.declared.base.Stored.{Stored}
 use Rattle.rq_wal.specs.declared.file.WalFile.{WalFile}
 use Rattle.rq_wal.specs.Current.{IsCurrent, EachImage}
 use Rattle.rq_node.specs.declared.node.Node.{Node as RunningNode}
-use Rattle.rq_node.specs.Node.{Node, kept_of}
+use Rattle.rq_node.specs.Node.{Node, persistent_of}
 use Rattle.rq_node.specs.Files.{first_base, stored_of}
-use Rattle.rq_node.specs.Standing.{HasFile, Stands}
+use Rattle.rq_node.specs.Recovery.{HasFile, Stands}
 use Rattle.rq_script.specs.Cluster.{Stand, Running, Down, Server, Cluster, first_cluster, numbers, waiting_at, unanswered, ending}
 use Rattle.rq_script.specs.ScriptText.{pending_text}
 use Rattle.rq_cluster.specs.Acting.{waiting_in}
 use Rattle.rq_cluster.specs.declared.host.Host.{Host}
 use Rattle.rq_cluster.specs.declared.world.World.{World}
-use Rattle.rq_cluster.specs.Standing.{IsNew, Rises, StandsAs, ServerStands, Holds, AreNew}
-use Rattle.rq_cluster.specs.Shown.{ShowsStand, ShowsHost, Shows, ServerReady, IsReady, pending_in}
+use Rattle.rq_cluster.specs.Recovery.{IsNew, Rises, StandsAs, ServerStands, Holds, AreNew}
+use Rattle.rq_cluster.specs.Refines.{ShowsStand, ShowsHost, Shows, ServerReady, IsReady, pending_in}
 
 abbrev nth : {T : Type 0} → (T → Type 0) → Option T → Type 0
 nth P None = ⊤
@@ -37,16 +37,16 @@ first_of_nine (x ∷ xs) count = (x, refl)
 module _ {D F : Type 0} (told : Bool) (means : D → DiskMeaning) where
   -- by the law of a log at rest
   module _ (law : (first : Base) (pair : DiskPair D F) (wal : WalFile) (stored : Stored) → IsCurrent means first pair wal stored → EachImage means first pair (λ reading. reading ≡ Ok stored)) where
-    open_stands : (pair : DiskPair D F) (id : List ℕ) (n : Node) (file : Option WalFile) → HasFile told means pair id (kept_of n) file → Stands told means pair id (kept_of n) []
+    open_stands : (pair : DiskPair D F) (id : List ℕ) (n : Node) (file : Option WalFile) → HasFile told means pair id (persistent_of n) file → Stands told means pair id (persistent_of n) []
     open_stands pair id n None none = absurd none
-    open_stands pair id n (Some wal) current = λ t one two i1 i2. (0, law (first_base id) pair wal (stored_of id (kept_of n)) (current t) one two i1 i2)
+    open_stands pair id n (Some wal) current = λ t one two i1 i2. (0, law (first_base id) pair wal (stored_of id (persistent_of n)) (current t) one two i1 i2)
 
     stand_stands : (pair : DiskPair D F) (id : List ℕ) (node : Option RunningNode) (stand : Stand) → ShowsStand told means pair id node stand → StandsAs told means pair id stand
     stand_stands pair id None (Down kept rest) (stands, readable) = stands
     stand_stands pair id None (Running n) wrong = absurd wrong
     stand_stands pair id (Some node) (Down kept rest) wrong = absurd wrong
     stand_stands pair id (Some node) (Running n) (is, same, open_file) =
-        open_stands pair id n node.file (subst (λ (i : List ℕ). HasFile told means pair i (kept_of n) node.file) same (subst (λ (m : Node). HasFile told means pair m.id (kept_of m) node.file) is open_file))
+        open_stands pair id n node.file (subst (λ (i : List ℕ). HasFile told means pair i (persistent_of n) node.file) same (subst (λ (m : Node). HasFile told means pair m.id (persistent_of m) node.file) is open_file))
 
     pub host_stands : (start pair : DiskPair D F) (host : Option Host) (server : Option Server) → ShowsHost told means start pair host server → ServerStands told means start pair server
     host_stands start pair None None (t, new, rises) = (new, rises)

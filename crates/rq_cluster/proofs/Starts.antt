@@ -13,22 +13,22 @@ use Rattle.rq_wal.specs.Later.{DeviceRose}
 use Rattle.rq_node.specs.declared.node.Node.{Node as RunningNode}
 use Rattle.rq_node.specs.declared.error.NodeError.{NodeError}
 use Rattle.rq_node.specs.declared.error.NodeError.TheVariants as errors
-use Rattle.rq_node.specs.Node.{Node, Durable, Boot, kept_of, kept_after}
+use Rattle.rq_node.specs.Node.{Node, StoredRecord, Boot, persistent_of, persistent_after}
 use Rattle.rq_node.specs.Rules.{started}
 use Rattle.rq_node.specs.Sound.{AreReadable}
-use Rattle.rq_node.specs.Standing.{IsOpen, Stands, IsItemReadable, FailedOpening}
+use Rattle.rq_node.specs.Recovery.{IsOpen, Stands, IsItemReadable, FailedOpening}
 use Rattle.rq_script.specs.Cluster.{Stand, Running, Down, Armed, Server, Course, NoFault, Reading, Storing, gone_down, numbers, opens}
 use Rattle.rq_script.specs.ScriptText.{up_text}
 use Rattle.rq_cluster.specs.Acting.{Act, Crashed, start as start_act, stop as stop_act, arm as arm_act}
 use Rattle.rq_cluster.specs.declared.arming.Arming.{Arming}
 use Rattle.rq_cluster.specs.declared.host.Host.{Host}
-use Rattle.rq_cluster.specs.Shown.{ShowsServer, ShowsStand, IsArmed, LetsPass, armed_of}
-use Rattle.rq_cluster.specs.Standing.{Rises, StandsAs, ServerStands}
+use Rattle.rq_cluster.specs.Refines.{ShowsServer, ShowsStand, IsArmed, LetsPass, armed_of}
+use Rattle.rq_cluster.specs.Recovery.{Rises, StandsAs, ServerStands}
 use Rattle.rq_cluster.proofs.Pairs.{LogsStand, open_stands, SameDisks, NoFewer, fewer_same, rises_on, rises_more, stands_same}
 use Rattle.rq_cluster.proofs.Turns.{IsDown, node_shown, down_shown}
 use Rattle.rq_cluster.proofs.Downs.{GoesDown, down_breaks, readable_after, settled, fewer_crashed}
 
-take_none : (k : ℕ) → take {A = Durable} k [] ≡ []
+take_none : (k : ℕ) → take {A = StoredRecord} k [] ≡ []
 take_none zero = refl
 take_none (suc k) = refl
 
@@ -39,8 +39,8 @@ module _ {D F : Type 0} (told : Bool) (means : D → DiskMeaning) where
     where
       by : (o : Option RunningNode) (st : Stand) → ShowsStand told means pair s.id o st → StandsAs told means pair s.id st
       by (Some node) (Running n) (state, named, opened) =
-          subst (λ (i : List ℕ). Stands told means pair i (kept_of n) []) named
-          (subst (λ (m : Node). Stands told means pair m.id (kept_of m) []) state (open_stands told means law pair node opened))
+          subst (λ (i : List ℕ). Stands told means pair i (persistent_of n) []) named
+          (subst (λ (m : Node). Stands told means pair m.id (persistent_of m) []) state (open_stands told means law pair node opened))
       by None (Down kept rest) (stands, readable) = stands
       by (Some node) (Down kept rest) nothing = absurd nothing
       by None (Running n) nothing = absurd nothing
@@ -91,11 +91,11 @@ module _ {D F : Type 0} (told : Bool) (means : D → DiskMeaning) where
 
     -- the node runs
     pub starts_running : (to : Host) (node : RunningNode) (before text : List ℕ) → to.id ≡ from.id → to.lost ≡ from.lost → to.failures ≡ from.failures → to.armed ≡ from.armed → to.node ≡ Some node
-        → ((k : ℕ) × (node.state ≡ (started s.id (kept_after is_down.kept (take k is_down.rest))).node)) → IsOpen told means new node → text ≡ before ++ up_text node.state
+        → ((k : ℕ) × (node.state ≡ (started s.id (persistent_after is_down.kept (take k is_down.rest))).node)) → IsOpen told means new node → text ≡ before ++ up_text node.state
         → (course : Course) × ShowsServer told means start new to (start_act course s).0 × (text ≡ before ++ (start_act course s).1)
     starts_running to node before text id lost failures armed runs (k, state) opened text_is =
         let course : Course = record { fault = NoFault; stands = k } in
-        let turn = started s.id (kept_after is_down.kept (take k is_down.rest)) in
+        let turn = started s.id (persistent_after is_down.kept (take k is_down.rest)) in
         let next : Server = record s { stand = Running turn.node } in
         let shows_next : ShowsServer told means start new to next = record {
           tells = shows.tells;
@@ -142,17 +142,17 @@ module _ {D F : Type 0} (told : Bool) (means : D → DiskMeaning) where
             }
         by (inr (k, stands)) =
             let course : Course = record { fault = Storing; stands = k } in
-            let settle = kept_after is_down.kept (take k is_down.rest) in
+            let settle = persistent_after is_down.kept (take k is_down.rest) in
             record {
               course = course;
-              next = record s { stand = Down settle (started s.id settle).durable; failures = s.failures + 1 };
+              next = record s { stand = Down settle (started s.id settle).records; failures = s.failures + 1 };
               is = starts_as course;
               id = refl;
               armed = unarmed;
               lost = sym (append-nil s.lost);
               counted = refl;
               kept = settle;
-              rest = (started s.id settle).durable;
+              rest = (started s.id settle).records;
               stand = refl;
               stands = stands;
               readable = (readable_after (take k is_down.rest) is_down.kept is_down.readable.0 (All-take IsItemReadable k is_down.rest is_down.readable.1), boot_reads (settle.boot + 1));
@@ -182,21 +182,21 @@ module _ {D F : Type 0} (told : Bool) (means : D → DiskMeaning) where
   stops_down law start old from s shows new node runs crash log =
       let shown = node_shown told means start old from s shows node runs in
       let n = shown.n in
-      let stood : Stands told means old s.id (kept_of n) [] = subst (λ (i : List ℕ). Stands told means old i (kept_of n) []) shown.named
-      (subst (λ (m : Node). Stands told means old m.id (kept_of m) []) shown.state (open_stands told means law old node shown.opened)) in
-      let settle = settled told means old new s.id (kept_of n) [] shows.tells crash stood in
+      let stood : Stands told means old s.id (persistent_of n) [] = subst (λ (i : List ℕ). Stands told means old i (persistent_of n) []) shown.named
+      (subst (λ (m : Node). Stands told means old m.id (persistent_of m) []) shown.state (open_stands told means law old node shown.opened)) in
+      let settle = settled told means old new s.id (persistent_of n) [] shows.tells crash stood in
       record {
         course = record { fault = NoFault; stands = 0 };
-        next = gone_down s n (kept_of n) [] [];
+        next = gone_down s n (persistent_of n) [] [];
         is = ap (λ (st : Stand). stop_act (record { fault = NoFault; stands = 0 }) (record s { stand = st })) shown.stand;
         id = refl;
         armed = refl;
         lost = ap (λ (l : List ℕ). s.lost ++ l) (append-nil (numbers n.waiting) ∙ ap (λ (m : Node). numbers m.waiting) (sym shown.state));
         counted = refl;
-        kept = kept_of n;
+        kept = persistent_of n;
         rest = [];
         stand = refl;
-        stands = subst (λ (d : List Durable). Stands told means new s.id (kept_after (kept_of n) d) []) (take_none settle.0) settle.1;
+        stands = subst (λ (d : List StoredRecord). Stands told means new s.id (persistent_after (persistent_of n) d) []) (take_none settle.0) settle.1;
         readable = (subst (λ (m : Node). AreReadable m.log) shown.state log, all_none);
         rises = rises_on told means s.failures start old new shows.rises (fewer_crashed told means old new crash);
         arm = λ stop. (let e : Off ≡ Struck = sym crash.arm ∙ stop in absurd (cc));

@@ -9,15 +9,15 @@ use Rattle.rq_outside.specs.declared.pair.Arm.TheVariants.{Passes, Struck}
 use Rattle.rq_outside.specs.Disk.{DiskMeaning}
 use Rattle.rq_outside.specs.Pair.{arm_of, UsedCalls}
 use Rattle.rq_node.specs.declared.node.Node.{Node as RunningNode}
-use Rattle.rq_node.specs.Node.{Node, Kept, Durable, Turn, kept_of, kept_after}
-use Rattle.rq_node.specs.Standing.{IsOpen, Stands, CanBeRead}
+use Rattle.rq_node.specs.Node.{Node, Persistent, StoredRecord, Turn, persistent_of, persistent_after}
+use Rattle.rq_node.specs.Recovery.{IsOpen, Stands, CanBeRead}
 use Rattle.rq_script.specs.Cluster.{Stand, Running, Down, Armed, Server, Course, NoFault, Storing, Fate, Done, Struck as HasStruck, fate, fate_of, ended, needed, passes, left_after, happens, happens_at, gone_down, whole}
 use Rattle.rq_request.specs.declared.say.Answer.{Answer}
 use Rattle.rq_script.specs.ScriptText.{answer_text, answers_text, down_text}
 use Rattle.rq_cluster.specs.Acting.{event}
 use Rattle.rq_cluster.specs.declared.arming.Arming.{Arming}
 use Rattle.rq_cluster.specs.declared.host.Host.{Host}
-use Rattle.rq_cluster.specs.Shown.{ShowsServer, ShowsStand, IsArmed, LetsPass, armed_of}
+use Rattle.rq_cluster.specs.Refines.{ShowsServer, ShowsStand, IsArmed, LetsPass, armed_of}
 use Rattle.rq_cluster.proofs.Pairs.{SameDisks, NoFewer, fewer_same, rises_on, stands_same}
 
 -- ---- what a turn makes of a server
@@ -26,44 +26,44 @@ pub happens_running : (course : Course) (s : Server) (n : Node) (rule : Node →
     → happens_at course s rule asked ≡ happens course (record s { stand = Running n }) n (rule n) asked
 happens_running course s n rule asked is = ap (λ (st : Stand). happens_at course (record s { stand = st }) rule asked) is
 
-pub happens_down : (course : Course) (s : Server) (kept : Kept) (rest : List Durable) (rule : Node → Turn) (asked : List ℕ) → s.stand ≡ Down kept rest
+pub happens_down : (course : Course) (s : Server) (kept : Persistent) (rest : List StoredRecord) (rule : Node → Turn) (asked : List ℕ) → s.stand ≡ Down kept rest
     → happens_at course s rule asked ≡ (record s { lost = s.lost ++ asked }, [])
 happens_down course s kept rest rule asked is =
     ap (λ (st : Stand). happens_at course (record s { stand = st }) rule asked) is
     ∙ ap (λ (st : Stand). (record s { stand = st; lost = s.lost ++ asked }, [])) (sym is)
 
-fate_done : (armed : Option Armed) (items : List Durable) → passes armed (needed items) ≡ true → fate whole armed items ≡ Done
+fate_done : (armed : Option Armed) (items : List StoredRecord) → passes armed (needed items) ≡ true → fate whole armed items ≡ Done
 fate_done armed [] passing = refl
 fate_done armed (item ∷ items) passing = ap (λ (b : Bool). fate_of NoFault b) passing
 
-pub turn_done : (s : Server) (n : Node) (rule : Node → Turn) (asked : List ℕ) → s.stand ≡ Running n → passes s.armed (needed (rule n).durable) ≡ true
-    → happens_at whole s rule asked ≡ (record s { stand = Running (rule n).node; armed = left_after s.armed (needed (rule n).durable) }, answers_text (rule n).answers)
+pub turn_done : (s : Server) (n : Node) (rule : Node → Turn) (asked : List ℕ) → s.stand ≡ Running n → passes s.armed (needed (rule n).records) ≡ true
+    → happens_at whole s rule asked ≡ (record s { stand = Running (rule n).node; armed = left_after s.armed (needed (rule n).records) }, answers_text (rule n).answers)
 turn_done s n rule asked is passing =
     happens_running whole s n rule asked is
-    ∙ ap (λ (f : Fate). ended f whole (record s { stand = Running n }) n (rule n) asked) (fate_done s.armed (rule n).durable passing)
+    ∙ ap (λ (f : Fate). ended f whole (record s { stand = Running n }) n (rule n) asked) (fate_done s.armed (rule n).records passing)
 
 -- a disk fails while something is stored
 pub failing : Course
 failing = record { fault = Storing; stands = 0 }
 
-pub turn_failed : (s : Server) (n : Node) (rule : Node → Turn) (asked : List ℕ) (first : Durable) (more : List Durable) → s.stand ≡ Running n → (rule n).durable ≡ first ∷ more
-    → happens_at failing s rule asked ≡ (record (gone_down s n (kept_of n) (rule n).durable asked) { failures = s.failures + 1 }, down_text s.id)
+pub turn_failed : (s : Server) (n : Node) (rule : Node → Turn) (asked : List ℕ) (first : StoredRecord) (more : List StoredRecord) → s.stand ≡ Running n → (rule n).records ≡ first ∷ more
+    → happens_at failing s rule asked ≡ (record (gone_down s n (persistent_of n) (rule n).records asked) { failures = s.failures + 1 }, down_text s.id)
 unfolding failing
 turn_failed s n rule asked first more is some =
     happens_running failing s n rule asked is
-    ∙ ap (λ (f : Fate). ended f failing (record s { stand = Running n }) n (rule n) asked) (ap (λ (d : List Durable). fate failing s.armed d) some)
+    ∙ ap (λ (f : Fate). ended f failing (record s { stand = Running n }) n (rule n) asked) (ap (λ (d : List StoredRecord). fate failing s.armed d) some)
 
 -- a line `stop ID K P` strikes, and so many things stand
 pub striking : ℕ → Course
 striking k = record { fault = NoFault; stands = k }
 
-pub turn_struck : (s : Server) (n : Node) (rule : Node → Turn) (asked : List ℕ) (first : Durable) (more : List Durable) (k : ℕ) → s.stand ≡ Running n → (rule n).durable ≡ first ∷ more
-    → passes s.armed (needed (rule n).durable) ≡ false
-    → happens_at (striking k) s rule asked ≡ (gone_down s n (kept_after (kept_of n) (take k (rule n).durable)) [] asked, down_text s.id)
+pub turn_struck : (s : Server) (n : Node) (rule : Node → Turn) (asked : List ℕ) (first : StoredRecord) (more : List StoredRecord) (k : ℕ) → s.stand ≡ Running n → (rule n).records ≡ first ∷ more
+    → passes s.armed (needed (rule n).records) ≡ false
+    → happens_at (striking k) s rule asked ≡ (gone_down s n (persistent_after (persistent_of n) (take k (rule n).records)) [] asked, down_text s.id)
 unfolding striking
 turn_struck s n rule asked first more k is some short =
-    let d = ap (λ (d : List Durable). fate (striking k) s.armed d) some in
-    let b : fate_of NoFault (passes s.armed (needed (first ∷ more))) ≡ HasStruck = ap (λ (b : Bool). fate_of NoFault b) (ap (λ (d : List Durable). passes s.armed (needed d)) (sym some) ∙ short) in
+    let d = ap (λ (d : List StoredRecord). fate (striking k) s.armed d) some in
+    let b : fate_of NoFault (passes s.armed (needed (first ∷ more))) ≡ HasStruck = ap (λ (b : Bool). fate_of NoFault b) (ap (λ (d : List StoredRecord). passes s.armed (needed d)) (sym some) ∙ short) in
     happens_running (striking k) s n rule asked is
     ∙ ap (λ (f : Fate). ended f (striking k) (record s { stand = Running n }) n (rule n) asked) (d ∙ b)
 
@@ -108,8 +108,8 @@ module _ {D F : Type 0} (told : Bool) (means : D → DiskMeaning) where
         by (Down kept rest) is nothing = absurd nothing
 
     pub record IsDown : Type 0 where
-      pub kept : Kept
-      pub rest : List Durable
+      pub kept : Persistent
+      pub rest : List StoredRecord
       pub stand : s.stand ≡ Down kept rest
       pub stands : Stands told means old s.id kept rest
       pub readable : CanBeRead kept rest
@@ -126,18 +126,18 @@ module _ {D F : Type 0} (told : Bool) (means : D → DiskMeaning) where
         (same : SameDisks old mid) (lets : LetsPass told means mid s.armed) (later : NoFewer told means old new)
         (runs : from.node ≡ Some node) (id : to.id ≡ from.id) (lost : to.lost ≡ from.lost) (failures : to.failures ≡ from.failures)
         (armed : armed_of to.armed ≡ left_after (armed_of from.armed) (4 * count)) (runs_on : to.node ≡ Some after)
-        (state : after.state ≡ (rule node.state).node) (count_is : count ≡ length (rule node.state).durable) (named : (n : Node) → (rule n).node.id ≡ n.id)
+        (state : after.state ≡ (rule node.state).node) (count_is : count ≡ length (rule node.state).records) (named : (n : Node) → (rule n).node.id ≡ n.id)
         (opened : IsOpen told means new after) (calls : UsedCalls (4 * count) (arm_of mid) (arm_of new)) (text_is : text ≡ before ++ answers_text (rule node.state).answers) where
       pub turn_goes : (course : Course) × ShowsServer told means start new to (event rule asked course s).0 × (text ≡ before ++ (event rule asked course s).1)
       turn_goes =
           let shown = node_shown node runs in
           let n = shown.n in
           let turn : rule node.state ≡ rule n = ap rule shown.state in
-          let k : 4 * count ≡ needed (rule n).durable = ap (λ (c : ℕ). 4 * c) (count_is ∙ ap (λ (t : Turn). length t.durable) turn) in
-          let used : UsedCalls (needed (rule n).durable) (arm_of mid) (arm_of new) = subst (λ (c : ℕ). UsedCalls c (arm_of mid) (arm_of new)) k calls in
-          let done = turn_done s n rule asked shown.stand (lets_passes mid new s.armed (needed (rule n).durable) lets used) in
-          let next : Server = record s { stand = Running (rule n).node; armed = left_after s.armed (needed (rule n).durable) } in
-          let is_armed : left_after s.armed (needed (rule n).durable) ≡ armed_of to.armed =
+          let k : 4 * count ≡ needed (rule n).records = ap (λ (c : ℕ). 4 * c) (count_is ∙ ap (λ (t : Turn). length t.records) turn) in
+          let used : UsedCalls (needed (rule n).records) (arm_of mid) (arm_of new) = subst (λ (c : ℕ). UsedCalls c (arm_of mid) (arm_of new)) k calls in
+          let done = turn_done s n rule asked shown.stand (lets_passes mid new s.armed (needed (rule n).records) lets used) in
+          let next : Server = record s { stand = Running (rule n).node; armed = left_after s.armed (needed (rule n).records) } in
+          let is_armed : left_after s.armed (needed (rule n).records) ≡ armed_of to.armed =
           ap (λ (c : ℕ). left_after s.armed c) (sym k) ∙ ap (λ (a : Option Armed). left_after a (4 * count)) shows.armed ∙ sym armed in
           let there : ShowsStand told means new s.id to.node (Running (rule n).node) =
           subst (λ (o : Option RunningNode). ShowsStand told means new s.id o (Running (rule n).node)) (sym runs_on)
@@ -148,7 +148,7 @@ module _ {D F : Type 0} (told : Bool) (means : D → DiskMeaning) where
             lost = shows.lost ∙ ap (λ l. l.items) (sym lost);
             failures = shows.failures ∙ sym failures;
             armed = is_armed;
-            arm = arm_left mid new s.armed (needed (rule n).durable) lets used;
+            arm = arm_left mid new s.armed (needed (rule n).records) lets used;
             rises = rises_on told means s.failures start old new shows.rises later;
             stand = there;
             spent = λ none. (let e = sym runs_on ∙ none in absurd (cc));

@@ -4,7 +4,7 @@ use Rattle.std.proofs.lemmas.List.{append-nil}
 use Rattle.rq_script.specs.Cluster.{Cluster, Steps, IsOutside, IsStarted, ending}
 use Rattle.rq_script.specs.Lines.{Line, lines_of, IsOver, IsWithin}
 use Rattle.rq_cluster.specs.LastLines.{stopped_line, IsPrefix}
-use Rattle.rq_cluster.specs.Play.{Ends, CutShort, BrokenOff}
+use Rattle.rq_cluster.specs.Outcome.{Ends, CutShort, BrokenOff}
 use Rattle.rq_script.specs.Runs.{Runs, StopsAt}
 use Rattle.rq_cluster.proofs.Alike.{Readable}
 use Rattle.rq_cluster.proofs.WorldLaws.{stepped, started_or_not}
@@ -52,21 +52,21 @@ goes_on readable all (l ∷ more) lines text w is runs = ⊎_elim over (fits (λ
         (λ (out : IsOutside w l.text). stop (inr out))
         (stepped readable w l.text)
 
--- a front of the text of a run of some of the lines
+-- a prefix of the text of a run of some of the lines
 abbrev pub IsCut : List Line → List ℕ → Type 0
 IsCut all out = (lines more : List Line) × (text : List ℕ) × (w : Cluster) × (all ≡ lines ++ more) × Runs lines text w × IsPrefix out text
 
-pub cut_of : (all : List Line) (Kept : Cluster → Type 0) (out : List ℕ) → BrokenOff all Kept out → IsCut all out
-cut_of all Kept _ (BrokenOff.before lines more text w is runs kept) = (lines, more, text, w, is, runs, ([], append-nil text))
-cut_of all Kept _ (BrokenOff.within lines l more text w reached is runs ok reach kept) = (lines, l ∷ more, text, w, is, runs, ([], append-nil text))
-cut_of all Kept _ (BrokenOff.writing lines l more text w front said next is runs ok step pre kept) =
-    (lines ++ l ∷ [], more, text ++ said, next, is ∙ sym (append_assoc lines (l ∷ []) more), Runs.line l said next runs ok step, (pre.0, append_assoc text front pre.0 ∙ ap (λ (t : List ℕ). text ++ t) pre.1))
+pub cut_of : (all : List Line) (Stays : Cluster → Type 0) (out : List ℕ) → BrokenOff all Stays out → IsCut all out
+cut_of all Stays _ (BrokenOff.before lines more text w is runs kept) = (lines, more, text, w, is, runs, ([], append-nil text))
+cut_of all Stays _ (BrokenOff.within lines l more text w reached is runs ok reach kept) = (lines, l ∷ more, text, w, is, runs, ([], append-nil text))
+cut_of all Stays _ (BrokenOff.writing lines l more text w prefix said next is runs ok step pre kept) =
+    (lines ++ l ∷ [], more, text ++ said, next, is ∙ sym (append_assoc lines (l ∷ []) more), Runs.line l said next runs ok step, (pre.0, append_assoc text prefix pre.0 ∙ ap (λ (t : List ℕ). text ++ t) pre.1))
 
 pub cut_short : Readable → (bytes left : List ℕ) (Failed : Type 0) (out : List ℕ) → IsCut (lines_of bytes) out → CutShort bytes left Failed out
-cut_short readable bytes left Failed out (lines, more, text, w, is, runs, (rest, front)) = ⊎_elim
+cut_short readable bytes left Failed out (lines, more, text, w, is, runs, (rest, prefix)) = ⊎_elim
     (λ f. (0, text ++ f.0, ending f.1, Ends.done (text ++ f.0) f.1 f.2 f.3 tt, longer f.0 (ending f.1)))
     (λ f. (3, text ++ f.1, stopped_line f.0, Ends.outside f.0 (text ++ f.1) f.2 f.3 tt, longer f.1 (stopped_line f.0)))
     (goes_on readable (lines_of bytes) more lines text w is runs)
   where
     longer : (a b : List ℕ) → IsPrefix out ((text ++ a) ++ b)
-    longer a b = (rest ++ (a ++ b), sym (append_assoc out rest (a ++ b)) ∙ ap (λ (t : List ℕ). t ++ (a ++ b)) front ∙ sym (append_assoc text a b))
+    longer a b = (rest ++ (a ++ b), sym (append_assoc out rest (a ++ b)) ∙ ap (λ (t : List ℕ). t ++ (a ++ b)) prefix ∙ sym (append_assoc text a b))

@@ -15,17 +15,17 @@ use Rattle.rq_wal.specs.Replace.{generation_of}
 use Rattle.rq_wal.specs.Stored.{started}
 use Rattle.rq_node.specs.declared.log_entry.LogEntry.{LogEntry}
 use Rattle.rq_node.specs.declared.node.Node.{Node as RunningNode}
-use Rattle.rq_node.specs.Files.{first_base, first_kept}
-use Rattle.rq_node.specs.Sound.{IsKeptReadable}
-use Rattle.rq_node.specs.Standing.{Stands, IsItemReadable}
+use Rattle.rq_node.specs.Files.{first_base, first_persistent}
+use Rattle.rq_node.specs.Sound.{IsPersistentReadable}
+use Rattle.rq_node.specs.Recovery.{Stands, IsItemReadable}
 use Rattle.rq_script.specs.Cluster.{Down, Server, Cluster, Course, whole, new_server, founded, named, done, step, Steps, MayReach, IsOutside}
 use Rattle.rq_script.specs.Preparing.{statements_in, AreRead}
 use Rattle.rq_script.specs.ScriptLine.{Line, Cluster as ClusterLine, line_of}
 use Rattle.rq_cluster.specs.Acting.{start as start_act}
 use Rattle.rq_cluster.specs.declared.host.Host.{Host}
 use Rattle.rq_cluster.specs.declared.world.World.{World}
-use Rattle.rq_cluster.specs.Shown.{ShowsServer, ShowsStand, ShowsHost, ShowsCluster, Goes, BreaksOff, Leads, DoesLine, BreaksLine, IsOutsideHere, Does, Breaks, Shows, armed_of}
-use Rattle.rq_cluster.specs.Standing.{IsNew, Rises, ServerStands, Holds}
+use Rattle.rq_cluster.specs.Refines.{ShowsServer, ShowsStand, ShowsHost, ShowsCluster, Goes, BreaksOff, Leads, DoesLine, BreaksLine, IsOutsideHere, Does, Breaks, Shows, armed_of}
+use Rattle.rq_cluster.specs.Recovery.{IsNew, Rises, ServerStands, Holds}
 
 -- two closed files stand for the first base
 closed_gives : (first : Base) (one two : List ℕ) → AreClosed one two → pair_gives first one two ≡ Ok (started first)
@@ -57,12 +57,12 @@ module _ {D F : Type 0} (told : Bool) (means : D → DiskMeaning) where
     armed = sym (ap armed_of h.armed);
     arm = λ struck. (let e : Off ≡ Struck = sym new.unarmed ∙ struck in absurd (cc));
     rises = rises;
-    stand = subst (λ (o : Option RunningNode). ShowsStand told means pair id o (Down first_kept [])) (sym h.node)
-        (stands, (All-nil (λ (entry : LogEntry). IsKeptReadable entry.content), All-nil IsItemReadable));
+    stand = subst (λ (o : Option RunningNode). ShowsStand told means pair id o (Down first_persistent [])) (sym h.node)
+        (stands, (All-nil (λ (entry : LogEntry). IsPersistentReadable entry.content), All-nil IsItemReadable));
     spent = λ _. refl;
   }
     where
-      stands : Stands told means pair id first_kept []
+      stands : Stands told means pair id first_persistent []
       stands t one two in_one in_two = (0, closed_gives (first_base id) one two (new.closed t one two in_one in_two))
 
   no_server : (start pair : DiskPair D F) (world : World) (c : Cluster) → world.host ≡ None → ShowsCluster told means start pair world c

@@ -8,7 +8,7 @@ use Rattle.rq_outside.specs.Disk.{DiskMeaning, Only}
 use Rattle.rq_outside.specs.Pair.{arm_of, disk_at}
 use Rattle.rq_statement.specs.declared.item.Item.{Item}
 use Rattle.rq_node.specs.declared.node.Node.{Node as RunningNode}
-use Rattle.rq_node.specs.Node.{Node, Turn, kept_of}
+use Rattle.rq_node.specs.Node.{Node, Turn, persistent_of}
 use Rattle.rq_node.specs.Rules as rules
 use Rattle.rq_script.specs.Cluster.{Stand, Running, Down, Server, Course, happens_at, opens, gone_down, numbers}
 use Rattle.rq_script.specs.ScriptText.{answers_text, down_text, show_text, show_down_text}
@@ -36,7 +36,7 @@ abbrev pub stop : Act
 stop course s = at s.stand
   where
     at : Stand → Server × List ℕ
-    at (Running n) = (gone_down s n (kept_of n) [] [], down_text s.id)
+    at (Running n) = (gone_down s n (persistent_of n) [] [], down_text s.id)
     at (Down kept rest) = (s, [])
 
 -- a running node goes down within an event to come

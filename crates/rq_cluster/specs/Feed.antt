@@ -7,8 +7,8 @@ use Rattle.rq_script.specs.Lines.{Line, lines_by, lines_of}
 use Rattle.rq_script.specs.Runs.{Runs, StopsAt}
 use Rattle.rq_cluster.specs.declared.progress.Progress.{Progress}
 use Rattle.rq_cluster.specs.LastLines.{IsPrefix}
-use Rattle.rq_cluster.specs.Play.{Took}
-use Rattle.rq_cluster.specs.Shown.{Shows}
+use Rattle.rq_cluster.specs.Outcome.{Took}
+use Rattle.rq_cluster.specs.Refines.{Shows}
 
 -- after these bytes: the lines so far have run and written this text, and `held` stand on the line to come, which has this number
 pub record After (read text : List ℕ) (c : Cluster) (number : ℕ) (held : List ℕ) (count : ℕ) : Type 0 where
@@ -21,13 +21,13 @@ pub record After (read text : List ℕ) (c : Cluster) (number : ℕ) (held : Lis
 
 -- the first line outside has this number, and the files keep the cluster before it
 abbrev pub StopsKept : (Cluster → Type 0) → ℕ → List Line → List ℕ → Type 0
-StopsKept Kept number all text = (c : Cluster) × StopsAt all number text c × Kept c
+StopsKept Stays number all text = (c : Cluster) × StopsAt all number text c × Stays c
 
 -- a line is broken off after this text of it, and the files keep a cluster of it
-pub data PartOf (Kept : Cluster → Type 0) (c : Cluster) (line : List ℕ) : List ℕ → Type 0 where
-  none : Kept c → PartOf Kept c line []
-  within : (reached : Cluster) → length line ≤ 2097152 → MayReach c line reached → Kept reached → PartOf Kept c line []
-  writing : (front said : List ℕ) (next : Cluster) → length line ≤ 2097152 → Steps c line said next → IsPrefix front said → Kept next → PartOf Kept c line front
+pub data PartOf (Stays : Cluster → Type 0) (c : Cluster) (line : List ℕ) : List ℕ → Type 0 where
+  none : Stays c → PartOf Stays c line []
+  within : (reached : Cluster) → length line ≤ 2097152 → MayReach c line reached → Stays reached → PartOf Stays c line []
+  writing : (prefix said : List ℕ) (next : Cluster) → length line ≤ 2097152 → Steps c line said next → IsPrefix prefix said → Stays next → PartOf Stays c line prefix
 
 module _ {D F : Type 0} (tells : Bool) (means : D → DiskMeaning) where
   -- So far a script came after these bytes, which wrote this text, from pairs that were as at the start to these

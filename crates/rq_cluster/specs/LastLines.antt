@@ -15,9 +15,9 @@ abbrev pub read_fault : List ℕ
 read_fault = codes "stopped: read fault\n"
 
 abbrev pub IsPrefix : List ℕ → List ℕ → Type 0
-IsPrefix front whole = (rest : List ℕ) × (front ++ rest ≡ whole)
+IsPrefix prefix whole = (rest : List ℕ) × (prefix ++ rest ≡ whole)
 
--- a last line, whole with this status, or a front of it where the sink failed or memory ran out
+-- a last line, whole with this status, or a prefix of it where the sink failed or memory ran out
 pub data LastLine (status : ℕ) (line : List ℕ) : ℕ → List ℕ → Type 0 where
   whole : LastLine status line status line
   sink : (out : List ℕ) → IsPrefix out line → LastLine status line 5 out

@@ -3,6 +3,6 @@ pub mod CommandWords
 pub mod EmptyPairs
 pub mod Feed
 pub mod LastLines
-pub mod Play
-pub mod Shown
-pub mod Standing
+pub mod Outcome
+pub mod Refines
+pub mod Recovery

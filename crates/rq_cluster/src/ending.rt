@@ -5,17 +5,17 @@ ghost use Rattle.rq_outside.specs.declared.pair.DiskPair.{DiskPair as ThePair};
 ghost use Rattle.rq_script.specs.Cluster.{Cluster};
 ghost use Rattle.rq_script.specs.Lines.{lines_of};
 ghost use Rattle.rq_script.specs.ScriptText.{pending_text};
-ghost use Rattle.rq_cluster.specs.Play.{Took, BrokenOff, Wrote};
+ghost use Rattle.rq_cluster.specs.Outcome.{Took, BrokenOff, Wrote};
 ghost use Rattle.rq_cluster.specs.LastLines.{stopped_line, LastLine};
 ghost use Rattle.rq_cluster.specs.Feed.{IsAfter, StopsKept, AtEnd};
-ghost use Rattle.rq_cluster.specs.Shown.{IsReady, Shows, pending_in};
-ghost use Rattle.rq_cluster.specs.Standing.{Holds};
+ghost use Rattle.rq_cluster.specs.Refines.{IsReady, Shows, pending_in};
+ghost use Rattle.rq_cluster.specs.Recovery.{Holds};
 ghost use Rattle.rq_cluster.specs.declared.feeding.Stop.TheVariants.{Outside as StopOutside, Sink as StopSink, Source as StopSource};
 
 use crate::feeding::{Stop, do_line};
 use crate::giving::give;
 use crate::progress::Progress;
-use crate::standing::shown_clusters_stand;
+use crate::recovery::refined_clusters_stand;
 use crate::world::World;
 use rq_outside::{CrashDisk, DiskPair, Sink, SinkError};
 use rq_settle::each_text_is_prepared;
@@ -102,7 +102,7 @@ pub fn end_script<D: CrashDisk, K: Sink>(
     ensures cause { result ≡ 5 → Rose (K.faults sink.old) (K.faults sink.new) }
 {
     each_text_is_prepared();
-    shown_clusters_stand::<D>();
+    refined_clusters_stand::<D>();
     match last_held(progress, alloc, disks, sink) {
         Ok(number) => {
             if progress.world.is_started() {

@@ -6,16 +6,16 @@ ghost use Rattle.rq_script.specs.Cluster.{Cluster, first_cluster, Steps, IsOutsi
 ghost use Rattle.rq_script.specs.Lines.{drop_cr, lines_of};
 ghost use Rattle.rq_script.specs.Runs.{StopsAt};
 ghost use Rattle.rq_cluster.specs.Feed.{After, IsAfter, IsBetween, PartOf, StopsKept, GoesOn, Stopped, HasNoLineEnd};
-ghost use Rattle.rq_cluster.specs.Play.{Took, BrokenOff};
-ghost use Rattle.rq_cluster.specs.Shown.{IsReady, Shows};
-ghost use Rattle.rq_cluster.specs.Standing.{Holds};
+ghost use Rattle.rq_cluster.specs.Outcome.{Took, BrokenOff};
+ghost use Rattle.rq_cluster.specs.Refines.{IsReady, Shows};
+ghost use Rattle.rq_cluster.specs.Recovery.{Holds};
 ghost use Rattle.rq_cluster.specs.declared.feeding.Stop.TheVariants.{Outside as StopOutside, Sink as StopSink, Source as StopSource};
 
 use crate::giving::give;
 use crate::line_error::LineError;
 use crate::progress::Progress;
 use crate::reason::Reason;
-use crate::standing::shown_clusters_stand;
+use crate::recovery::refined_clusters_stand;
 use crate::world::World;
 use rq_outside::{CrashDisk, DiskPair, Sink, SinkError};
 use std::alloc::Global;
@@ -72,7 +72,7 @@ pub fn do_line<D: CrashDisk, K: Sink>(
     ensures cause { IsErrOf result StopSink → Rose (K.faults sink.old) (K.faults sink.new) }
     ensures not_source { IsErrOf result StopSource → ⊥ }
 {
-    shown_clusters_stand::<D>();
+    refined_clusters_stand::<D>();
     if line.len() > MAX_LINE {
         return Err(Stop::Outside);
     }
@@ -120,7 +120,7 @@ fn end_line<D: CrashDisk, K: Sink>(
     ensures cause { IsErrOf result StopSink → Rose (K.faults sink.old) (K.faults sink.new) }
     ensures not_source { IsErrOf result StopSource → ⊥ }
 {
-    shown_clusters_stand::<D>();
+    refined_clusters_stand::<D>();
     if progress.read == MAX_SCRIPT {
         progress.passes = Some(Reason::LongScript);
         return Err(Stop::Outside);
@@ -188,7 +188,7 @@ fn line_end(piece: &[u8]) -> usize
 }
 
 /// Takes the bytes up to and with the first LF, or all where there is none, and answers how many.
-fn take_front<D: CrashDisk, K: Sink>(
+fn take_prefix<D: CrashDisk, K: Sink>(
     progress: &mut Progress,
     alloc: Global,
     disks: &mut Vec<DiskPair<D>>,
@@ -207,7 +207,7 @@ fn take_front<D: CrashDisk, K: Sink>(
     ensures cause { IsErrOf result StopSink → Rose (K.faults sink.old) (K.faults sink.new) }
     ensures not_source { IsErrOf result StopSource → ⊥ }
 {
-    shown_clusters_stand::<D>();
+    refined_clusters_stand::<D>();
     let count = line_end(piece);
     match hold(progress, &piece[..count]) {
         Ok(()) => {}
@@ -242,7 +242,7 @@ pub fn feed<D: CrashDisk, K: Sink>(
 {
     let mut fed = 0;
     while fed < piece.len() {
-        match take_front(progress, alloc, disks, sink, &piece[fed..]) {
+        match take_prefix(progress, alloc, disks, sink, &piece[fed..]) {
             Ok(count) => fed += count,
             Err(stop) => return Err(stop),
         }

@@ -2,7 +2,7 @@
 ghost use Rattle.std.specs.Prelude.{◌≡◌, ◌≤◌, ◌++◌, List, ℕ, length, take, IsTrue, IfOk, OnOk, OnErr, IsErrOf};
 ghost use Rattle.rq_outside.specs.Counts.{Rose};
 ghost use Rattle.rq_outside.specs.declared.sink.SinkError.TheVariants.{Failed as SinkFailed};
-ghost use Rattle.rq_cluster.specs.Play.{Took};
+ghost use Rattle.rq_cluster.specs.Outcome.{Took};
 ghost use Rattle.rq_cluster.specs.LastLines.{IsPrefix};
 
 use rq_outside::{Sink, SinkError};

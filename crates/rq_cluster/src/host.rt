@@ -10,7 +10,7 @@ ghost use Rattle.rq_script.specs.ScriptText.{down_text, pending_text};
 ghost use Rattle.rq_cluster.specs.declared.arming.Arming.{Arming as TheArming};
 ghost use Rattle.rq_cluster.specs.Acting as act;
 ghost use Rattle.rq_cluster.specs.Acting.{pending_at, asked_of, HasStruck, Crashed};
-ghost use Rattle.rq_cluster.specs.Shown.{HostReady, IsArmed, LetsPass, Goes, BreaksOff, armed_of};
+ghost use Rattle.rq_cluster.specs.Refines.{HostReady, IsArmed, LetsPass, Goes, BreaksOff, armed_of};
 
 use crate::arming::Arming;
 use rq_node::{Node, NodeError, State, TurnError, Waiting};

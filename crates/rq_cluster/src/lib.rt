@@ -14,8 +14,8 @@ mod preparing;
 mod progress;
 mod reading_lines;
 mod reason;
+mod recovery;
 mod running;
-mod standing;
 mod words;
 mod world;
 

@@ -1,7 +1,7 @@
 //! Pairs of disks for a script in memory.
 ghost use Rattle.std.specs.Prelude.{true, [], IfOk};
 ghost use Rattle.rq_outside.specs.Disk.{Only};
-ghost use Rattle.rq_cluster.specs.Standing.{AreNew};
+ghost use Rattle.rq_cluster.specs.Recovery.{AreNew};
 ghost use Rattle.rq_cluster.specs.EmptyPairs.{sure_means};
 
 use crate::new_pairs::{MakesDisks, nine_pairs};

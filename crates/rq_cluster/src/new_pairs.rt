@@ -3,7 +3,7 @@ ghost use Rattle.std.specs.Prelude.{[], ℕ, IfOk};
 ghost use Rattle.rq_outside.specs.declared.pair.FileNo.{FileNo};
 ghost use Rattle.rq_outside.specs.Disk.{Only};
 ghost use Rattle.rq_cluster.specs.EmptyPairs.{IsMade, AreMade};
-ghost use Rattle.rq_cluster.specs.Standing.{IsNew, AreNew};
+ghost use Rattle.rq_cluster.specs.Recovery.{IsNew, AreNew};
 
 use rq_outside::{Disk, DiskPair, FileNo};
 use rq_values::NoMemory;

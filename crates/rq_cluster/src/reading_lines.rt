@@ -2,15 +2,15 @@
 ghost use Rattle.std.specs.Prelude.{◌≡◌, ◌≤◌, ◌++◌, [], List, ℕ, IsTrue, OnOk, OnErr, IsErrOf};
 ghost use Rattle.rq_outside.specs.Counts.{Rose};
 ghost use Rattle.rq_outside.specs.declared.pair.DiskPair.{DiskPair as ThePair};
-ghost use Rattle.rq_cluster.specs.Shown.{IsReady};
-ghost use Rattle.rq_cluster.specs.Standing.{Holds};
-ghost use Rattle.rq_cluster.specs.Play.{BrokenOff};
+ghost use Rattle.rq_cluster.specs.Refines.{IsReady};
+ghost use Rattle.rq_cluster.specs.Recovery.{Holds};
+ghost use Rattle.rq_cluster.specs.Outcome.{BrokenOff};
 ghost use Rattle.rq_cluster.specs.Feed.{StopsKept, GoesOn, Stopped};
 ghost use Rattle.rq_cluster.specs.declared.feeding.Stop.TheVariants.{Outside as StopOutside, Sink as StopSink, Source as StopSource, Memory as StopMemory};
 
 use crate::feeding::{Stop, feed};
 use crate::progress::Progress;
-use crate::standing::shown_clusters_stand;
+use crate::recovery::refined_clusters_stand;
 use rq_outside::{CrashDisk, DiskPair, Sink, Source};
 use std::alloc::Global;
 
@@ -33,7 +33,7 @@ pub fn read_all<S: Source, D: CrashDisk, K: Sink>(
     ensures cause { IsErrOf result StopSink → Rose (K.faults sink.old) (K.faults sink.new) }
     ensures source_cause { IsErrOf result StopSource → Rose (S.faults source.old) (S.faults source.new) }
 {
-    shown_clusters_stand::<D>();
+    refined_clusters_stand::<D>();
     let mut buffer = [0u8; 4096];
     'reading: loop {
         match source.read(&mut buffer) {

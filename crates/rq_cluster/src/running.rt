@@ -12,19 +12,19 @@ ghost use Rattle.rq_script.specs.OpenAsks.{Opens};
 ghost use Rattle.rq_script.specs.Promise.{IsKept, Keeps, Grows};
 ghost use Rattle.rq_script.specs.Runs.{Runs};
 ghost use Rattle.rq_script.specs.ScriptLine.{line_of};
-ghost use Rattle.rq_script.specs.Telling.{Tells, ReadsSeeApplied};
+ghost use Rattle.rq_script.specs.Writing.{Tells, ReadsSeeApplied};
 ghost use Rattle.rq_cluster.specs.CommandWords.{wrong_word};
 ghost use Rattle.rq_cluster.specs.Feed.{After};
 ghost use Rattle.rq_cluster.specs.LastLines.{stopped_word, LastLine};
-ghost use Rattle.rq_cluster.specs.Play.{Took, Wrote, IsStatus};
-ghost use Rattle.rq_cluster.specs.Standing.{AreNew, Holds};
+ghost use Rattle.rq_cluster.specs.Outcome.{Took, Wrote, IsStatus};
+ghost use Rattle.rq_cluster.specs.Recovery.{AreNew, Holds};
 
 use crate::ending::{end_script, last_line, stop_at};
 use crate::feeding::{MAX_LINE, Stop, without_cr};
 use crate::progress::Progress;
 use crate::reading_lines::read_all;
 use crate::reason::{Reason, Stopped};
-use crate::standing::shown_clusters_stand;
+use crate::recovery::refined_clusters_stand;
 use crate::words::{first_wrong, refuse};
 use rq_outside::{CrashDisk, DiskPair, Draws, Sink, Source, Word};
 use rq_script::laws::{
@@ -62,7 +62,7 @@ fn run_script<S: Source, D: CrashDisk, K: Sink>(
     ensures sink { result ≡ 5 → Rose (K.faults sink.old) (K.faults sink.new) }
 {
     each_text_is_prepared();
-    shown_clusters_stand::<D>();
+    refined_clusters_stand::<D>();
     match read_all(progress, alloc, source, disks, sink) {
         Ok(()) => end_script(progress, alloc, disks, sink),
         Err(Stop::Outside) => stop_at(alloc, sink, progress.number),
@@ -86,7 +86,7 @@ pub fn cluster_main<S: Source, K: Sink, D: CrashDisk, R: Draws>(
 
     ensures statuses { IsStatus result }
 
-    // Wrong words: the place and the word, whole with status 2, or a front of it with 5 or 6. The source isn't read.
+    // Wrong words: the place and the word, whole with status 2, or a prefix of it with 5 or 6. The source isn't read.
     ensures words { (place : ℕ) (word : List ℕ) → wrong_word words.now ≡ Some (place, word) →
         Took K.told (K.taken sink.old) (K.taken sink.new) (LastLine 2 (stopped_word place word) result) }
     ensures unread { (place : ℕ) (word : List ℕ) → wrong_word words.now ≡ Some (place, word) → S.left source.new ≡ S.left source.old }
@@ -108,7 +108,7 @@ pub fn cluster_main<S: Source, K: Sink, D: CrashDisk, R: Draws>(
     ensures refused { (place : ℕ) (word : List ℕ) → wrong_word words.now ≡ Some (place, word) → (Rose (K.faults sink.old) (K.faults sink.new) → ⊥) →
         (result ≡ 2) ⊎ (result ≡ 6) }
 
-    // At each moment of that run, as of every run, the database is the fold of a front of the one log and each answer is right;
+    // At each moment of that run, as of every run, the database is the fold of a prefix of the one log and each answer is right;
     // what was chosen stands in what the server keeps, running or down; and what was chosen and noted only grows.
     ensures each_moment { (lines : List Line) (text : List ℕ) (c : Cluster) (run : Runs lines text c) → Keeps (history run) (node_in c) }
     ensures kept { (lines : List Line) (text : List ℕ) (c : Cluster) (run : Runs lines text c) (s : Server) → c.server ≡ Some s → IsKept (history run).chosen s.stand }

@@ -1,7 +1,7 @@
 // The words of the command line.
 ghost use Rattle.std.specs.Prelude.{◌≡◌, ◌⊎◌, List, ℕ, IfSome, IfNone, IfOk, Some, None};
 ghost use Rattle.rq_outside.specs.Counts.{Rose};
-ghost use Rattle.rq_cluster.specs.Play.{Took};
+ghost use Rattle.rq_cluster.specs.Outcome.{Took};
 ghost use Rattle.rq_cluster.specs.LastLines.{stopped_word, LastLine};
 ghost use Rattle.rq_cluster.specs.CommandWords.{wrong_word, is_cluster};
 
@@ -37,8 +37,8 @@ pub fn first_wrong(words: &[Word]) -> Option<(u64, &[u8])>
 fn refusal(alloc: Global, place: u64, word: &[u8]) -> Result<Vec<u8>, AllocError>
     ensures { IfOk result (λ line. line.items ≡ stopped_word place word.now) }
 {
-    let front = format!(in alloc; "stopped: word {place}: ")?;
-    let mut line = Vec::from_slice(alloc, front.as_bytes())?;
+    let prefix = format!(in alloc; "stopped: word {place}: ")?;
+    let mut line = Vec::from_slice(alloc, prefix.as_bytes())?;
     line.extend_from_slice(word)?;
     line.extend_from_slice(b"\n")?;
     Ok(line)

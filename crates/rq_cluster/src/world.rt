@@ -8,8 +8,8 @@ ghost use Rattle.rq_script.specs.Preparing.{AreRead};
 ghost use Rattle.rq_script.specs.ReadLine.{line_read, HasPick};
 ghost use Rattle.rq_script.specs.ScriptLine as lines;
 ghost use Rattle.rq_script.specs.ScriptText.{pending_text};
-ghost use Rattle.rq_cluster.specs.Shown.{ServerReady, IsReady, ShowsCluster, Shows, Does, Breaks, DoesLine, IsOutsideHere, BreaksLine, pending_in};
-ghost use Rattle.rq_cluster.specs.Standing.{Holds};
+ghost use Rattle.rq_cluster.specs.Refines.{ServerReady, IsReady, ShowsCluster, Shows, Does, Breaks, DoesLine, IsOutsideHere, BreaksLine, pending_in};
+ghost use Rattle.rq_cluster.specs.Recovery.{Holds};
 ghost use Rattle.rq_cluster.specs.declared.line_error.LineError.TheVariants.{Outside, NoMemory as OutOfMemory};
 
 use crate::arming::Arming;
@@ -17,7 +17,7 @@ use crate::host::Host;
 use crate::line_error::LineError;
 use crate::preparing::items_of;
 use crate::reason::{Reason, misspelled, node_of};
-use crate::standing::shown_clusters_stand;
+use crate::recovery::refined_clusters_stand;
 use rq_outside::{CrashDisk, DiskPair};
 use rq_script::{ScriptLine, script_line};
 use rq_values::{Id, NoMemory};
@@ -65,7 +65,7 @@ impl World {
         ensures outside { IsErrOf result Outside → (start : List (ThePair D D.Fault)) (c : TheCluster) → Shows D.told D.means start disks.old.items self.old c → IsOutside c line.now × Holds D.told D.means start disks.new.items c }
         ensures broken { IsErrOf result OutOfMemory → (start : List (ThePair D D.Fault)) (c : TheCluster) → Shows D.told D.means start disks.old.items self.old c → (reached : TheCluster) × MayReach c line.now reached × Holds D.told D.means start disks.new.items reached }
     {
-        shown_clusters_stand::<D>();
+        refined_clusters_stand::<D>();
         self.step_on(alloc, &mut disks[0], line, text)
     }
 

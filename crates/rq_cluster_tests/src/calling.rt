@@ -1,5 +1,5 @@
 //! Calls of the cluster.
-ghost use Rattle.rq_cluster.specs.Standing.{AreNew};
+ghost use Rattle.rq_cluster.specs.Recovery.{AreNew};
 
 use rq_cluster::cluster_main;
 use rq_outside::{CrashDisk, DiskPair, Sink, Source, SureDraws, Word};

@@ -1,6 +1,6 @@
+use rq_json::{statements_of, write_body};
 use rq_request::Say;
 use rq_statement::Res;
-use rq_json::{statements_of, write_body};
 use rq_values::{Seq, Text, Value};
 use std::alloc::Global;
 use std::test::Fail;

@@ -114,10 +114,10 @@ exact_behind {A} wanted one s P fits exact = record {
       ap (λ r. r >>= λ x. one x.1) ((exact_byte wanted).reads wanted (s a ++ rest) (fits, is_eq wanted wanted refl)) ∙ exact.reads a rest proper;
   stood = λ bytes a rest all h.
       let found = bind_ok (byte_at wanted bytes) (λ x. one x.1) (a, rest) h in
-      let front = (exact_byte wanted).stood bytes found.0.0 found.0.1 all found.1 in
-      let back = exact.stood found.0.1 a rest front.behind found.2 in
+      let prefix = (exact_byte wanted).stood bytes found.0.0 found.0.1 all found.1 in
+      let back = exact.stood found.0.1 a rest prefix.behind found.2 in
       record {
-        is = front.is ∙ ap (λ (byte : ℕ). byte ∷ found.0.1) (eq_true found.0.0 wanted front.proper.1) ∙ ap (λ (l : List ℕ). wanted ∷ l) back.is;
+        is = prefix.is ∙ ap (λ (byte : ℕ). byte ∷ found.0.1) (eq_true found.0.0 wanted prefix.proper.1) ∙ ap (λ (l : List ℕ). wanted ∷ l) back.is;
         proper = back.proper;
         behind = back.behind;
       };

@@ -1,4 +1,4 @@
--- Reading a command from the front of some bytes, as docs/FORMATS.md, "Bytes", has it.
+-- Reading a command from the start of some bytes, as docs/FORMATS.md, "Bytes", has it.
 use Rattle.std.specs.Prelude.{ℕ, ◌≡◌, ◌==◌, Bool, false, List, [], Result, Ok, bytes_eq, if◌then◌else◌}
 use Rattle.rq_values.specs.declared.error.DecodeError.{DecodeError}
 use Rattle.rq_values.specs.declared.error.DecodeError.TheVariants.{Kind, Text}

@@ -87,7 +87,7 @@ fn next_byte(wanted: u8, bytes: &[u8]) -> Result<(u8, &[u8]), DecodeError>
     Ok((byte, rest))
 }
 
-/// The command at the front of the bytes, and the bytes after it.
+/// The command at the start of the bytes, and the bytes after it.
 #[tactic(auto, unfolding(crate::specs::Reading::command_at, rq_values::specs::Reading::list_at))]
 fn next_command(alloc: Global, limit: u32, bytes: &[u8]) -> Result<(Seq<Item>, &[u8]), DecodeError>
     ensures { (item_of : List ℕ → Item) → IsPreparing item_of → Gives (λ x. (x.0, x.1.now)) result (command_at item_of limit bytes.now) }

@@ -1,6 +1,6 @@
 //! Commands of the log.
 ghost use Rattle.std.specs.Prelude.{◌≡◌, ◌++◌, OnOk, OnErr};
-ghost use Rattle.rq_values.specs.Writing.{KeepsFront};
+ghost use Rattle.rq_values.specs.Writing.{KeepsPrefix};
 ghost use Rattle.rq_engine.specs.Command as spec;
 
 use rq_statement::Item;
@@ -9,7 +9,7 @@ use rq_values::{NoMemory, put_list, put_u8};
 /// Adds the command. With no memory a part of it may be there.
 fn put_execute(items: &[Item], into: &mut Vec<u8>) -> Result<(), NoMemory>
     ensures ok { OnOk result (into.new.items ≡ into.old.items ++ spec.execute_bytes items.now) }
-    ensures err { OnErr result (KeepsFront into.old.items into.new.items) }
+    ensures err { OnErr result (KeepsPrefix into.old.items into.new.items) }
 {
     put_u8(1, into)?;
     put_u8(0, into)?;

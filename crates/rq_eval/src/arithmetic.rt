@@ -111,7 +111,7 @@ pub fn calculate(op: Arithmetic, a: &Value, b: &Value) -> Result<Value, StmtErro
     calculated(op, m, n)
 }
 
-/// A front `-` and ABS
+/// A prefix `-` and ABS
 pub fn on_integer(op: Sign, a: &Value) -> Result<Value, StmtError>
     ensures { result ≡ spec.on_integer (spec.signed op) a.now }
 {

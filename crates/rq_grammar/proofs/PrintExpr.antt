@@ -20,11 +20,11 @@ use Rattle.rq_grammar.specs.Spelling.{word_of}
 use Rattle.rq_grammar.specs.Grammar as G
 use Rattle.rq_grammar.specs.Grammar.{upper}
 use Rattle.rq_grammar.specs.Print as P
-use Rattle.rq_grammar.specs.Print.{Front, word, operator, denial, more, commas, front_step, front, tokens_of}
+use Rattle.rq_grammar.specs.Print.{Front, word, operator, denial, more, commas, prefix_step, prefix, tokens_of}
 use Rattle.rq_grammar.specs.Proper.{all_of, proper_step, is_proper, is_literal, is_callee, is_parameter}
 
 abbrev Printed : Expr → Type 0
-Printed a = is_proper a ≡ true → (k : ℕ) (y : Tokens) → G.At k (front a y) a y
+Printed a = is_proper a ≡ true → (k : ℕ) (y : Tokens) → G.At k (prefix a y) a y
 
 spelled : (o : BinaryOp) (y : Tokens) → G.Spelled o (operator o y) y
 spelled op.Or y = G.or_word
@@ -62,61 +62,61 @@ negated true h = absurd (cc)
 -- ---- the equations of the two folds
 
 module _ (y : Tokens) where
-  front_literal : (a : Value) → front (e.Literal a) y ≡ P.literal a y
+  prefix_literal : (a : Value) → prefix (e.Literal a) y ≡ P.literal a y
   unfolding roll-Expr denote.Hole.Carrier.roll
-  front_literal a = ap (λ f. f y) (fold-roll-Expr Front front_step (Expr-F.Literal a))
+  prefix_literal a = ap (λ f. f y) (fold-roll-Expr Front prefix_step (Expr-F.Literal a))
 
-  front_param : (n : Option Text) → front (e.Param n) y ≡ t.Parameter n ∷ y
+  prefix_param : (n : Option Text) → prefix (e.Param n) y ≡ t.Parameter n ∷ y
   unfolding roll-Expr denote.Hole.Carrier.roll
-  front_param n = ap (λ f. f y) (fold-roll-Expr Front front_step (Expr-F.Param n))
+  prefix_param n = ap (λ f. f y) (fold-roll-Expr Front prefix_step (Expr-F.Param n))
 
-  front_name : (n : Text) → front (e.Name n) y ≡ t.Quoted n ∷ y
+  prefix_name : (n : Text) → prefix (e.Name n) y ≡ t.Quoted n ∷ y
   unfolding roll-Expr denote.Hole.Carrier.roll
-  front_name n = ap (λ f. f y) (fold-roll-Expr Front front_step (Expr-F.Name n))
+  prefix_name n = ap (λ f. f y) (fold-roll-Expr Front prefix_step (Expr-F.Name n))
 
-  front_qualified : (n m : Text) → front (e.Qualified n m) y ≡ t.Quoted n ∷ t.Dot ∷ t.Quoted m ∷ y
+  prefix_qualified : (n m : Text) → prefix (e.Qualified n m) y ≡ t.Quoted n ∷ t.Dot ∷ t.Quoted m ∷ y
   unfolding roll-Expr denote.Hole.Carrier.roll
-  front_qualified n m = ap (λ f. f y) (fold-roll-Expr Front front_step (Expr-F.Qualified n m))
+  prefix_qualified n m = ap (λ f. f y) (fold-roll-Expr Front prefix_step (Expr-F.Qualified n m))
 
-  front_timestamp : front e.CurrentTimestamp y ≡ word (codes "CURRENT_TIMESTAMP") w.CurrentTimestamp ∷ y
+  prefix_timestamp : prefix e.CurrentTimestamp y ≡ word (codes "CURRENT_TIMESTAMP") w.CurrentTimestamp ∷ y
   unfolding roll-Expr denote.Hole.Carrier.roll
-  front_timestamp = ap (λ f. f y) (fold-roll-Expr Front front_step Expr-F.CurrentTimestamp)
+  prefix_timestamp = ap (λ f. f y) (fold-roll-Expr Front prefix_step Expr-F.CurrentTimestamp)
 
-  front_date : front e.CurrentDate y ≡ word (codes "CURRENT_DATE") w.CurrentDate ∷ y
+  prefix_date : prefix e.CurrentDate y ≡ word (codes "CURRENT_DATE") w.CurrentDate ∷ y
   unfolding roll-Expr denote.Hole.Carrier.roll
-  front_date = ap (λ f. f y) (fold-roll-Expr Front front_step Expr-F.CurrentDate)
+  prefix_date = ap (λ f. f y) (fold-roll-Expr Front prefix_step Expr-F.CurrentDate)
 
-  front_time : front e.CurrentTime y ≡ word (codes "CURRENT_TIME") w.CurrentTime ∷ y
+  prefix_time : prefix e.CurrentTime y ≡ word (codes "CURRENT_TIME") w.CurrentTime ∷ y
   unfolding roll-Expr denote.Hole.Carrier.roll
-  front_time = ap (λ f. f y) (fold-roll-Expr Front front_step Expr-F.CurrentTime)
+  prefix_time = ap (λ f. f y) (fold-roll-Expr Front prefix_step Expr-F.CurrentTime)
 
-  front_count : front e.CountAll y ≡ word (codes "COUNT") w.Count ∷ t.Open ∷ t.Star ∷ t.Close ∷ y
+  prefix_count : prefix e.CountAll y ≡ word (codes "COUNT") w.Count ∷ t.Open ∷ t.Star ∷ t.Close ∷ y
   unfolding roll-Expr denote.Hole.Carrier.roll
-  front_count = ap (λ f. f y) (fold-roll-Expr Front front_step Expr-F.CountAll)
+  prefix_count = ap (λ f. f y) (fold-roll-Expr Front prefix_step Expr-F.CountAll)
 
-  front_call : (n : Text) (xs : List Expr) → front (e.Call n xs) y ≡ t.Word n (word_of n) ∷ t.Open ∷ commas (map front xs) (t.Close ∷ y)
+  prefix_call : (n : Text) (xs : List Expr) → prefix (e.Call n xs) y ≡ t.Word n (word_of n) ∷ t.Open ∷ commas (map prefix xs) (t.Close ∷ y)
   unfolding roll-Expr denote.Hole.Carrier.roll
-  front_call n xs = ap (λ f. f y) (fold-roll-Expr Front front_step (Expr-F.Call n xs))
+  prefix_call n xs = ap (λ f. f y) (fold-roll-Expr Front prefix_step (Expr-F.Call n xs))
 
-  front_minus : (a : Expr) → front (e.Minus a) y ≡ t.Minus ∷ t.Open ∷ front a (t.Close ∷ y)
+  prefix_minus : (a : Expr) → prefix (e.Minus a) y ≡ t.Minus ∷ t.Open ∷ prefix a (t.Close ∷ y)
   unfolding roll-Expr denote.Hole.Carrier.roll
-  front_minus a = ap (λ f. f y) (fold-roll-Expr Front front_step (Expr-F.Minus a))
+  prefix_minus a = ap (λ f. f y) (fold-roll-Expr Front prefix_step (Expr-F.Minus a))
 
-  front_not : (a : Expr) → front (e.Not a) y ≡ t.Open ∷ word (codes "NOT") w.Not ∷ front a (t.Close ∷ y)
+  prefix_not : (a : Expr) → prefix (e.Not a) y ≡ t.Open ∷ word (codes "NOT") w.Not ∷ prefix a (t.Close ∷ y)
   unfolding roll-Expr denote.Hole.Carrier.roll
-  front_not a = ap (λ f. f y) (fold-roll-Expr Front front_step (Expr-F.Not a))
+  prefix_not a = ap (λ f. f y) (fold-roll-Expr Front prefix_step (Expr-F.Not a))
 
-  front_binary : (o : BinaryOp) (a b : Expr) → front (e.Binary o a b) y ≡ t.Open ∷ front a (operator o (front b (t.Close ∷ y)))
+  prefix_binary : (o : BinaryOp) (a b : Expr) → prefix (e.Binary o a b) y ≡ t.Open ∷ prefix a (operator o (prefix b (t.Close ∷ y)))
   unfolding roll-Expr denote.Hole.Carrier.roll
-  front_binary o a b = ap (λ f. f y) (fold-roll-Expr Front front_step (Expr-F.Binary o a b))
+  prefix_binary o a b = ap (λ f. f y) (fold-roll-Expr Front prefix_step (Expr-F.Binary o a b))
 
-  front_in : (d : Bool) (a : Expr) (xs : List Expr) → front (e.InList d a xs) y ≡ t.Open ∷ front a (denial d (word (codes "IN") w.In ∷ t.Open ∷ commas (map front xs) (t.Close ∷ t.Close ∷ y)))
+  prefix_in : (d : Bool) (a : Expr) (xs : List Expr) → prefix (e.InList d a xs) y ≡ t.Open ∷ prefix a (denial d (word (codes "IN") w.In ∷ t.Open ∷ commas (map prefix xs) (t.Close ∷ t.Close ∷ y)))
   unfolding roll-Expr denote.Hole.Carrier.roll
-  front_in d a xs = ap (λ f. f y) (fold-roll-Expr Front front_step (Expr-F.InList d a xs))
+  prefix_in d a xs = ap (λ f. f y) (fold-roll-Expr Front prefix_step (Expr-F.InList d a xs))
 
-  front_between : (d : Bool) (a b c : Expr) → front (e.Between d a b c) y ≡ t.Open ∷ front a (denial d (word (codes "BETWEEN") w.Between ∷ front b (word (codes "AND") w.And ∷ front c (t.Close ∷ y))))
+  prefix_between : (d : Bool) (a b c : Expr) → prefix (e.Between d a b c) y ≡ t.Open ∷ prefix a (denial d (word (codes "BETWEEN") w.Between ∷ prefix b (word (codes "AND") w.And ∷ prefix c (t.Close ∷ y))))
   unfolding roll-Expr denote.Hole.Carrier.roll
-  front_between d a b c = ap (λ f. f y) (fold-roll-Expr Front front_step (Expr-F.Between d a b c))
+  prefix_between d a b c = ap (λ f. f y) (fold-roll-Expr Front prefix_step (Expr-F.Between d a b c))
 
 pub proper_literal : (a : Value) → is_proper (e.Literal a) ≡ is_literal a
 unfolding roll-Expr denote.Hole.Carrier.roll
@@ -152,8 +152,8 @@ proper_between d a b c = fold-roll-Expr Bool proper_step (Expr-F.Between d a b c
 
 -- ---- each node
 
-at_front : {k : ℕ} {x z : Tokens} {a : Expr} {y : Tokens} → x ≡ z → G.At k z a y → G.At k x a y
-at_front {k = k} {a = a} {y = y} is q = subst (λ x. G.At k x a y) (sym is) q
+at_prefix : {k : ℕ} {x z : Tokens} {a : Expr} {y : Tokens} → x ≡ z → G.At k z a y → G.At k x a y
+at_prefix {k = k} {a = a} {y = y} is q = subst (λ x. G.At k x a y) (sym is) q
 
 below : (a b : ℕ) → nat_lt a b ≡ true → a < b
 below a b h = grind (arith, nat_tests)
@@ -166,19 +166,19 @@ print_literal (v.Text n) h k y = G.atom G.text
 print_literal (v.Blob n) h k y = G.atom G.blob
 
 print_minus : (a : Expr) → Printed a → Printed (e.Minus a)
-print_minus a q h k y = at_front (front_minus y a) (G.minus refl (G.paren (q (sym (proper_minus a) ∙ h) 0 (t.Close ∷ y))))
+print_minus a q h k y = at_prefix (prefix_minus y a) (G.minus refl (G.paren (q (sym (proper_minus a) ∙ h) 0 (t.Close ∷ y))))
 
 print_not : (a : Expr) → Printed a → Printed (e.Not a)
-print_not a q h k y = at_front (front_not y a) (G.paren (G.not (omega arith) (q (sym (proper_not a) ∙ h) 3 (t.Close ∷ y))))
+print_not a q h k y = at_prefix (prefix_not y a) (G.paren (G.not (omega arith) (q (sym (proper_not a) ∙ h) 3 (t.Close ∷ y))))
 
 print_binary : (o : BinaryOp) (a b : Expr) → Printed a → Printed b → Printed (e.Binary o a b)
-print_binary o a b q r h k y = let c = both (is_proper a) (is_proper b) (sym (proper_binary o a b) ∙ h) in at_front (front_binary y o a b) (G.paren (G.binary (omega arith) (q c.0 _ _) (spelled o _) (r c.1 _ _)))
+print_binary o a b q r h k y = let c = both (is_proper a) (is_proper b) (sym (proper_binary o a b) ∙ h) in at_prefix (prefix_binary y o a b) (G.paren (G.binary (omega arith) (q c.0 _ _) (spelled o _) (r c.1 _ _)))
 
 print_between : (d : Bool) (a b c : Expr) → Printed a → Printed b → Printed c → Printed (e.Between d a b c)
 print_between d a b c q r r' h k y =
     let i = both (is_proper a) (is_proper b && is_proper c) (sym (proper_between d a b c) ∙ h) in
     let j = both (is_proper b) (is_proper c) i.1 in
-    at_front (front_between y d a b c) (G.paren (G.between (omega arith) (q i.0 _ _) (denies d _) (r j.0 _ _) (r' j.1 _ _)))
+    at_prefix (prefix_between y d a b c) (G.paren (G.between (omega arith) (q i.0 _ _) (denies d _) (r j.0 _ _) (r' j.1 _ _)))
 
 -- a list, behind the items xs
 abbrev Item : Type 0
@@ -187,13 +187,13 @@ Item = (x : Expr) × Printed x
 abbrev bare_of : List Item → List Expr
 bare_of = map (λ i. i.0)
 
-print_more : {x : Tokens} (y : Tokens) (xs : List Expr) (es : List Item) → all_of (map is_proper (bare_of es)) ≡ true → G.Some_of x xs (more (map front (bare_of es)) y) → G.Some_of x (xs ++ bare_of es) y
+print_more : {x : Tokens} (y : Tokens) (xs : List Expr) (es : List Item) → all_of (map is_proper (bare_of es)) ≡ true → G.Some_of x xs (more (map prefix (bare_of es)) y) → G.Some_of x (xs ++ bare_of es) y
 print_more {x = x} y xs [] h q = subst (λ zs. G.Some_of x zs y) (sym (append-nil xs)) q
 print_more {x = x} y xs (i ∷ es) h q =
     let c = both (is_proper i.0) (all_of (map is_proper (bare_of es))) h in
     subst (λ zs. G.Some_of x zs y) (append_assoc xs (i.0 ∷ []) (bare_of es)) (print_more y (xs ++ i.0 ∷ []) es c.1 (G.more q (i.1 c.0 0 _)))
 
-print_listed : (y : Tokens) (es : List Item) → all_of (map is_proper (bare_of es)) ≡ true → G.Listed (commas (map front (bare_of es)) (t.Close ∷ y)) (bare_of es) y
+print_listed : (y : Tokens) (es : List Item) → all_of (map is_proper (bare_of es)) ≡ true → G.Listed (commas (map prefix (bare_of es)) (t.Close ∷ y)) (bare_of es) y
 print_listed y [] h = G.none
 print_listed y (i ∷ es) h =
     let c = both (is_proper i.0) (all_of (map is_proper (bare_of es))) h in
@@ -209,23 +209,23 @@ print_call n es h k y =
     let d = both (Rattle.rq_grammar.specs.Spelling.is_bare n) (bytes_eq (upper n) n && (not (is_reserved (word_of n)) && not (is_time (word_of n)))) c.0 in
     let g = both (bytes_eq (upper n) n) (not (is_reserved (word_of n)) && not (is_time (word_of n))) d.1 in
     let j = both (not (is_reserved (word_of n))) (not (is_time (word_of n))) g.1 in
-    at_front (front_call y n (bare_of es)) (subst (λ m. G.At k (t.Word n (word_of n) ∷ t.Open ∷ commas (map front (bare_of es)) (t.Close ∷ y)) (e.Call m (bare_of es)) y) (same_bytes (upper n) n g.0) (G.call (negated _ j.0) (negated _ j.1) (print_listed y es c.1)))
+    at_prefix (prefix_call y n (bare_of es)) (subst (λ m. G.At k (t.Word n (word_of n) ∷ t.Open ∷ commas (map prefix (bare_of es)) (t.Close ∷ y)) (e.Call m (bare_of es)) y) (same_bytes (upper n) n g.0) (G.call (negated _ j.0) (negated _ j.1) (print_listed y es c.1)))
 
 print_in : (d : Bool) (a : Expr) (es : List Item) → Printed a → Printed (e.InList d a (bare_of es))
 print_in d a es q h k y =
     let c = both (is_proper a) (all_of (map is_proper (bare_of es))) (sym (proper_in d a (bare_of es)) ∙ h) in
-    at_front (front_in y d a (bare_of es)) (G.paren (G.among (omega arith) (q c.0 _ _) (denies d _) (print_listed (t.Close ∷ y) es c.1)))
+    at_prefix (prefix_in y d a (bare_of es)) (G.paren (G.among (omega arith) (q c.0 _ _) (denies d _) (print_listed (t.Close ∷ y) es c.1)))
 
 layer : (y : Expr-F Item) → Printed (roll-Expr (map-Expr Item Expr (λ i. i.0) y))
 unfolding roll-Expr denote.Hole.Carrier.roll
-layer (Expr-F.Literal a) = λ h k y. at_front (front_literal y a) (print_literal a (sym (proper_literal a) ∙ h) k y)
-layer (Expr-F.Param n) = λ h k y. at_front (front_param y n) (G.atom G.param)
-layer (Expr-F.Name n) = λ h k y. at_front (front_name y n) (G.name quoted_inside)
-layer (Expr-F.Qualified n m) = λ h k y. at_front (front_qualified y n m) (G.qualified quoted_inside quoted_inside)
-layer Expr-F.CurrentTimestamp = λ h k y. at_front (front_timestamp y) (G.atom G.current_timestamp)
-layer Expr-F.CurrentDate = λ h k y. at_front (front_date y) (G.atom G.current_date)
-layer Expr-F.CurrentTime = λ h k y. at_front (front_time y) (G.atom G.current_time)
-layer Expr-F.CountAll = λ h k y. at_front (front_count y) G.count_all
+layer (Expr-F.Literal a) = λ h k y. at_prefix (prefix_literal y a) (print_literal a (sym (proper_literal a) ∙ h) k y)
+layer (Expr-F.Param n) = λ h k y. at_prefix (prefix_param y n) (G.atom G.param)
+layer (Expr-F.Name n) = λ h k y. at_prefix (prefix_name y n) (G.name quoted_inside)
+layer (Expr-F.Qualified n m) = λ h k y. at_prefix (prefix_qualified y n m) (G.qualified quoted_inside quoted_inside)
+layer Expr-F.CurrentTimestamp = λ h k y. at_prefix (prefix_timestamp y) (G.atom G.current_timestamp)
+layer Expr-F.CurrentDate = λ h k y. at_prefix (prefix_date y) (G.atom G.current_date)
+layer Expr-F.CurrentTime = λ h k y. at_prefix (prefix_time y) (G.atom G.current_time)
+layer Expr-F.CountAll = λ h k y. at_prefix (prefix_count y) G.count_all
 layer (Expr-F.Call n es) = print_call n es
 layer (Expr-F.Minus a) = print_minus a.0 a.1
 layer (Expr-F.Not a) = print_not a.0 a.1
@@ -234,5 +234,5 @@ layer (Expr-F.InList d a es) = print_in d a.0 es a.1
 layer (Expr-F.Between d a b c) = print_between d a.0 b.0 c.0 a.1 b.1 c.1
 
 -- the canonical tokens of an expression are read as it, whatever follows and wherever it stands
-pub printed : (a : Expr) → is_proper a ≡ true → (k : ℕ) (y : Tokens) → G.At k (front a y) a y
+pub printed : (a : Expr) → is_proper a ≡ true → (k : ℕ) (y : Tokens) → G.At k (prefix a y) a y
 printed = ind-Expr Printed (λ x y is. subst (λ x. Printed (roll-Expr x)) is (layer y))

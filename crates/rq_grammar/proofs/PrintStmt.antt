@@ -19,19 +19,19 @@ use Rattle.rq_grammar.specs.Grammar as G
 use Rattle.rq_grammar.specs.Grammar.{upper}
 use Rattle.rq_grammar.specs.Statements as S
 use Rattle.rq_grammar.specs.Print as P
-use Rattle.rq_grammar.specs.Print.{Front, word, operator, denial, more, commas, front_step, front, tokens_of}
+use Rattle.rq_grammar.specs.Print.{Front, word, operator, denial, more, commas, prefix_step, prefix, tokens_of}
 use Rattle.rq_grammar.specs.Proper.{all_of, is_some_of, is_proper, is_maybe, is_row, is_result, is_term, are_limits, is_select, is_set, is_list, are_names, is_statement}
 use Rattle.rq_grammar.proofs.PrintExpr.{both, printed}
 
 -- ---- lists
 
-items_of : (xs : List Expr) → all_of (map is_proper xs) ≡ true → (y : Tokens) (zs : List Expr) {x : Tokens} → G.Some_of x zs (more (map front xs) y) → G.Some_of x (zs ++ xs) y
+items_of : (xs : List Expr) → all_of (map is_proper xs) ≡ true → (y : Tokens) (zs : List Expr) {x : Tokens} → G.Some_of x zs (more (map prefix xs) y) → G.Some_of x (zs ++ xs) y
 items_of [] h y zs {x} q = subst (λ v. G.Some_of x v y) (sym (append-nil zs)) q
 items_of (a ∷ xs) h y zs {x} q =
     let c = both (is_proper a) (all_of (map is_proper xs)) h in
     subst (λ v. G.Some_of x v y) (append_assoc zs (a ∷ []) xs) (items_of xs c.1 y (zs ++ a ∷ []) (G.more q (printed a c.0 0 _)))
 
-print_items : (xs : List Expr) → is_row xs ≡ true → (y : Tokens) → G.Some_of (commas (map front xs) y) xs y
+print_items : (xs : List Expr) → is_row xs ≡ true → (y : Tokens) → G.Some_of (commas (map prefix xs) y) xs y
 print_items [] h y = absurd (cc)
 print_items (a ∷ xs) h y =
     let c = both (is_proper a) (all_of (map is_proper xs)) h in
@@ -79,7 +79,7 @@ print_result (item.Value a (Some n)) h y = S.value_as (printed a h 0 _) quoted
 print_results : (is : List ResultItem) → is_some_of (map is_result is) ≡ true → (y : Tokens) → S.ResultList (commas (map P.result is) y) is y
 print_results is h y = print_list S.ResultList P.result is_result (λ i h y. S.first_result (print_result i h y)) (λ x is i h y q. S.next_result q (print_result i h y)) is h y
 
-shown : (a : Expr) (b : Bool) → is_proper a ≡ true → (y : Tokens) → S.Term (front a (P.direction b y)) (record { expr = a; descending = b }) y
+shown : (a : Expr) (b : Bool) → is_proper a ≡ true → (y : Tokens) → S.Term (prefix a (P.direction b y)) (record { expr = a; descending = b }) y
 shown a true h y = S.desc (printed a h 0 _)
 shown a false h y = S.unmarked (printed a h 0 y)
 
@@ -108,7 +108,7 @@ print_select q h y =
 
 -- ---- INSERT, UPDATE
 
-print_row : (xs : List Expr) → is_row xs ≡ true → (y : Tokens) → G.Some_of (commas (map front xs) (t.Close ∷ y)) xs (t.Close ∷ y)
+print_row : (xs : List Expr) → is_row xs ≡ true → (y : Tokens) → G.Some_of (commas (map prefix xs) (t.Close ∷ y)) xs (t.Close ∷ y)
 print_row xs h y = print_items xs h (t.Close ∷ y)
 
 print_rows : (rs : List (List Expr)) → is_some_of (map is_row rs) ≡ true → (y : Tokens) → S.Rows (commas (map P.row rs) y) rs y

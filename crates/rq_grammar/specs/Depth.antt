@@ -106,7 +106,7 @@ pub record SpellsWithin (l : Limits) (x : Tokens) (r : Stmt) : Type 0 where
 
 -- some statement within the limits begins with these tokens
 abbrev pub GoesOnWithin : Limits → Tokens → Type 0
-GoesOnWithin l front = (rest : Tokens) × (r : Stmt) × SpellsWithin l (front ++ rest) r
+GoesOnWithin l prefix = (rest : Tokens) × (r : Stmt) × SpellsWithin l (prefix ++ rest) r
 
 -- why reading stops at a token: no statement goes on with it, or only one beyond the limits
 pub data Stop : Type 0 where

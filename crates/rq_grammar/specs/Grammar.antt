@@ -12,7 +12,7 @@ use Rattle.rq_grammar.specs.declared.expr.Expr.{Expr}
 use Rattle.rq_grammar.specs.declared.expr.Expr.TheVariants as e
 use Rattle.rq_grammar.specs.Words.{Text, Tokens, is_reserved, is_time, NameInside, is_numeral}
 
--- How tightly an operator binds. NOT has level 3, a front sign 9.
+-- How tightly an operator binds. NOT has level 3, a prefix sign 9.
 abbrev pub level : BinaryOp → ℕ
 level op.Or = 1
 level op.And = 2

@@ -12,7 +12,7 @@ abbrev pub PopsClosing : ℕ → Stack → Option Frame → Stack → Type 0
 PopsClosing k old (Some g) new = (old ≡ g ∷ new) × (closes k g ≡ true)
 PopsClosing k old None new = (old ≡ new) × ((a : Expr) → reduce k old a ≡ (old, a))
 
--- whether one more front `+` makes no frame
+-- whether one more prefix `+` makes no frame
 abbrev pub IsBehindPlus : Stack → Bool → Type 0
 IsBehindPlus st true = with_plus st ≡ st
 IsBehindPlus st false = with_plus st ≡ f.Plus ∷ st

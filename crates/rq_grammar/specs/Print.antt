@@ -25,7 +25,7 @@ use Rattle.rq_grammar.specs.declared.stmt.Stmt.TheVariants as stmt
 use Rattle.rq_grammar.specs.Words.{Text, Tokens}
 use Rattle.rq_grammar.specs.Spelling.{word_of}
 
--- what puts tokens in front of others
+-- what puts tokens before others
 abbrev pub Front : Type 0
 Front = Tokens → Tokens
 
@@ -77,35 +77,35 @@ literal (v.Int i) y = integer i y
 literal (v.Text n) y = t.String n ∷ y
 literal (v.Blob n) y = t.Blob n ∷ y
 
-abbrev pub front_step : Expr-F Front → Front
-front_step (Expr-F.Literal a) y = literal a y
-front_step (Expr-F.Param n) y = t.Parameter n ∷ y
-front_step (Expr-F.Name n) y = t.Quoted n ∷ y
-front_step (Expr-F.Qualified n m) y = t.Quoted n ∷ t.Dot ∷ t.Quoted m ∷ y
-front_step Expr-F.CurrentTimestamp y = word (codes "CURRENT_TIMESTAMP") w.CurrentTimestamp ∷ y
-front_step Expr-F.CurrentDate y = word (codes "CURRENT_DATE") w.CurrentDate ∷ y
-front_step Expr-F.CurrentTime y = word (codes "CURRENT_TIME") w.CurrentTime ∷ y
-front_step Expr-F.CountAll y = word (codes "COUNT") w.Count ∷ t.Open ∷ t.Star ∷ t.Close ∷ y
-front_step (Expr-F.Call n xs) y = t.Word n (word_of n) ∷ t.Open ∷ commas xs (t.Close ∷ y)
-front_step (Expr-F.Minus a) y = t.Minus ∷ t.Open ∷ a (t.Close ∷ y)
-front_step (Expr-F.Not a) y = t.Open ∷ word (codes "NOT") w.Not ∷ a (t.Close ∷ y)
-front_step (Expr-F.Binary o a b) y = t.Open ∷ a (operator o (b (t.Close ∷ y)))
-front_step (Expr-F.InList d a xs) y = t.Open ∷ a (denial d (word (codes "IN") w.In ∷ t.Open ∷ commas xs (t.Close ∷ t.Close ∷ y)))
-front_step (Expr-F.Between d a b c) y = t.Open ∷ a (denial d (word (codes "BETWEEN") w.Between ∷ b (word (codes "AND") w.And ∷ c (t.Close ∷ y))))
+abbrev pub prefix_step : Expr-F Front → Front
+prefix_step (Expr-F.Literal a) y = literal a y
+prefix_step (Expr-F.Param n) y = t.Parameter n ∷ y
+prefix_step (Expr-F.Name n) y = t.Quoted n ∷ y
+prefix_step (Expr-F.Qualified n m) y = t.Quoted n ∷ t.Dot ∷ t.Quoted m ∷ y
+prefix_step Expr-F.CurrentTimestamp y = word (codes "CURRENT_TIMESTAMP") w.CurrentTimestamp ∷ y
+prefix_step Expr-F.CurrentDate y = word (codes "CURRENT_DATE") w.CurrentDate ∷ y
+prefix_step Expr-F.CurrentTime y = word (codes "CURRENT_TIME") w.CurrentTime ∷ y
+prefix_step Expr-F.CountAll y = word (codes "COUNT") w.Count ∷ t.Open ∷ t.Star ∷ t.Close ∷ y
+prefix_step (Expr-F.Call n xs) y = t.Word n (word_of n) ∷ t.Open ∷ commas xs (t.Close ∷ y)
+prefix_step (Expr-F.Minus a) y = t.Minus ∷ t.Open ∷ a (t.Close ∷ y)
+prefix_step (Expr-F.Not a) y = t.Open ∷ word (codes "NOT") w.Not ∷ a (t.Close ∷ y)
+prefix_step (Expr-F.Binary o a b) y = t.Open ∷ a (operator o (b (t.Close ∷ y)))
+prefix_step (Expr-F.InList d a xs) y = t.Open ∷ a (denial d (word (codes "IN") w.In ∷ t.Open ∷ commas xs (t.Close ∷ t.Close ∷ y)))
+prefix_step (Expr-F.Between d a b c) y = t.Open ∷ a (denial d (word (codes "BETWEEN") w.Between ∷ b (word (codes "AND") w.And ∷ c (t.Close ∷ y))))
 
-abbrev pub front : Expr → Front
-front = fold-Expr Front front_step
+abbrev pub prefix : Expr → Front
+prefix = fold-Expr Front prefix_step
 
 abbrev pub names : Option (List Text) → Front
 names None y = y
 names (Some ns) y = t.Open ∷ commas (map (λ n y. t.Quoted n ∷ y) ns) (t.Close ∷ y)
 
 abbrev pub row : List Expr → Front
-row xs y = t.Open ∷ commas (map front xs) (t.Close ∷ y)
+row xs y = t.Open ∷ commas (map prefix xs) (t.Close ∷ y)
 
 abbrev pub filter : Option Expr → Front
 filter None y = y
-filter (Some a) y = word (codes "WHERE") w.Where ∷ front a y
+filter (Some a) y = word (codes "WHERE") w.Where ∷ prefix a y
 
 abbrev pub alias : Option Text → Front
 alias None y = y
@@ -113,7 +113,7 @@ alias (Some n) y = word (codes "AS") w.As ∷ t.Quoted n ∷ y
 
 abbrev pub result : ResultItem → Front
 result item.All y = t.Star ∷ y
-result (item.Value a n) y = front a (alias n y)
+result (item.Value a n) y = prefix a (alias n y)
 
 abbrev pub source : Option Text → Front
 source None y = y
@@ -124,7 +124,7 @@ direction true y = word (codes "DESC") w.Desc ∷ y
 direction false y = y
 
 abbrev pub term : OrderTerm → Front
-term i y = front i.expr (direction i.descending y)
+term i y = prefix i.expr (direction i.descending y)
 
 abbrev pub order_by : List OrderTerm → Front
 order_by [] y = y
@@ -132,11 +132,11 @@ order_by (i ∷ is) y = word (codes "ORDER") w.Order ∷ word (codes "BY") w.By 
 
 abbrev pub offset : Option Expr → Front
 offset None y = y
-offset (Some a) y = word (codes "OFFSET") w.Offset ∷ front a y
+offset (Some a) y = word (codes "OFFSET") w.Offset ∷ prefix a y
 
 abbrev pub limit : Option Expr → Option Expr → Front
 limit None b y = y
-limit (Some a) b y = word (codes "LIMIT") w.Limit ∷ front a (offset b y)
+limit (Some a) b y = word (codes "LIMIT") w.Limit ∷ prefix a (offset b y)
 
 abbrev pub select : SelectStmt → Front
 select q y = word (codes "SELECT") w.Select ∷ commas (map result q.results) (source q.table (filter q.filter (order_by q.order (limit q.limit q.offset y))))
@@ -162,7 +162,7 @@ abbrev pub column : ColumnDef → Front
 column d y = t.Quoted d.name ∷ kind_word d.kind (primary_rule d.primary (not_null_rule d.not_null (unique_rule d.unique y)))
 
 abbrev pub set : Text × Expr → Front
-set i y = t.Quoted i.0 ∷ t.Equal ∷ front i.1 y
+set i y = t.Quoted i.0 ∷ t.Equal ∷ prefix i.1 y
 
 abbrev pub if_not_exists : Bool → Front
 if_not_exists true y = word (codes "IF") w.If ∷ word (codes "NOT") w.Not ∷ word (codes "EXISTS") w.Exists ∷ y

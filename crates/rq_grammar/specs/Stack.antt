@@ -56,7 +56,7 @@ reduce k (g ∷ st) a = if closes k g then reduce k st (build g a) else (g ∷ s
 
 -- ---- where an operand is to come
 
--- several front `+` are one frame
+-- several prefix `+` are one frame
 abbrev pub with_plus : Stack → Stack
 with_plus (f.Plus ∷ st) = f.Plus ∷ st
 with_plus st = f.Plus ∷ st

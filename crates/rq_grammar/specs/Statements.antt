@@ -146,4 +146,4 @@ pub data Spells : Tokens → Stmt → Type 0 where
 
 -- some statement begins with these tokens
 abbrev pub GoesOn : Tokens → Type 0
-GoesOn front = (rest : Tokens) × (stmt : Stmt) × Spells (front ++ rest) stmt
+GoesOn prefix = (rest : Tokens) × (stmt : Stmt) × Spells (prefix ++ rest) stmt

@@ -57,7 +57,7 @@ pub data NameInside : Text → Token → Type 0 where
   bare_inside : {n : Text} {v : Word} → is_reserved v ≡ false → is_time v ≡ false → NameInside n (t.Word n v)
   quoted_inside : {n : Text} → NameInside n (t.Quoted n)
 
--- a numeral in the profile, or behind a front minus
+-- a numeral in the profile, or behind a prefix minus
 abbrev pub is_numeral : Token → Bool
 is_numeral (t.Numeral n) = true
 is_numeral _ = false

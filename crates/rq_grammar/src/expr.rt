@@ -30,7 +30,7 @@ pub enum BinaryOp {
 }
 
 impl BinaryOp {
-    /// How tightly the operator binds, 1 to 8. NOT has level 3, a front sign 9.
+    /// How tightly the operator binds, 1 to 8. NOT has level 3, a prefix sign 9.
     pub fn level(self) -> u8
         ensures { result ≡ level self }
     {

@@ -58,7 +58,7 @@ pub enum Frame {
         left: Measured,
     },
     Not,
-    /// One front `+` or more.
+    /// One prefix `+` or more.
     Plus,
     Minus,
     /// `left BETWEEN`
@@ -285,7 +285,7 @@ impl Stack {
         if closes { self.pop() } else { None }
     }
 
-    /// Whether the innermost frame is a front `+`.
+    /// Whether the innermost frame is a prefix `+`.
     pub fn is_behind_plus(&self) -> bool
         ensures { IsBehindPlus self.now result }
     {
@@ -344,7 +344,7 @@ pub enum State {
     Flat(Boxed<Place>),
     /// An operand is to come.
     Operand(Stack),
-    /// An operand is to come, directly behind a front `-`.
+    /// An operand is to come, directly behind a prefix `-`.
     Signed(Stack),
     /// A quoted name is read in an operand's place.
     Quoted(Stack, Text),

@@ -1,12 +1,12 @@
 -- What a vote says of the voter's log, and a lead of the logs of a quorum.
 use Rattle.std.proofs.Common.{◌≡◌, ◌⊎◌, ℕ, ◌+◌, ◌<◌, ◌≤◌, List, length, Option, Some, refl, ap, sym, subst, ◌∙◌, inl, inr, ⊎_elim, arith}
 use Rattle.std.proofs.lemmas.Bool.{cases_lt}
-use Rattle.rq_history.specs.History.{NodeId, EntryView, Node, History, After, Was, now, Candidate, Leader, IsFront, WasBefore}
+use Rattle.rq_history.specs.History.{NodeId, EntryView, Node, History, After, Was, now, Candidate, Leader, IsPrefixOf, WasBefore}
 use Rattle.rq_history.specs.Moves.{Move, Lawful, Rise, Fall, Stand, Grant, Lead, Extend, Accept, Learn, Commit, Voted, IsUpToDate}
 use Rattle.rq_history.proofs.Claims.{Sound}
 use Rattle.rq_history.specs.Votes.{Lost, Kept, Ballot, Cast, Election}
 use Rattle.rq_history.proofs.Moments.{law_past, law_move, sound_past, sound_move, since, since2, each, was_now}
-use Rattle.rq_history.proofs.Logs.{front_refl, front_push, front_trans}
+use Rattle.rq_history.proofs.Logs.{prefix_refl, prefix_push, prefix_trans}
 use Rattle.rq_history.proofs.Votes.{older, move_older, IsOlder, quorum_map, voted_later}
 use Rattle.rq_history.proofs.Growth.{no_return}
 use Rattle.rq_history.proofs.Kept.{still_has, lost_later}
@@ -147,14 +147,14 @@ module _ {E : Type 0} (view : EntryView E) where
     pub cast_of : (h : History E) → Sound view voters h → (v c : NodeId) (term : ℕ) → Voted h v c term → Cast view h v c term
     cast_of h l v c term p = subst (λ (t : ℕ). Cast view h v c t) p.in_term (casts h l v p.ballot p.was c p.for_c)
 
-    election_later : (h : History E) (k i : NodeId) (term : ℕ) (y : Node E) (a b : List E) → Lawful view voters (After h k y) → Election view voters h i term a → IsFront a b → Election view voters (After h k y) i term b
+    election_later : (h : History E) (k i : NodeId) (term : ℕ) (y : Node E) (a b : List E) → Lawful view voters (After h k y) → Election view voters h i term a → IsPrefixOf a b → Election view voters (After h k y) i term b
     election_later h k i term y a b l e f = record {
       stood = e.stood;
       was = inr e.was;
       stands = e.stands;
       in_term = e.in_term;
       quorum = quorum_map view voters (voters e.stood.log) (λ v. Ballot view h v i term term e.stood.log) (λ v. Ballot view (After h k y) v i term term e.stood.log) (λ v p. ballot_later h k y v i term term e.stood.log l p) e.quorum;
-      front = front_trans e.stood.log a b e.front f;
+      prefix = prefix_trans e.stood.log a b e.prefix f;
     }
 
     move_election : (h : History E) (i : NodeId) (x y : Node E) → Sound view voters (After h i y) → x ≡ now h i → (x.role ≡ Leader → Election view voters h i x.term x.log) → Move view voters h i x y → y.role ≡ Leader → Election view voters (After h i y) i y.term y.log
@@ -162,7 +162,7 @@ module _ {E : Type 0} (view : EntryView E) where
     move_election h i x y l is f (Fall b c r d e) q = absurd (cc)
     move_election h i x y l is f (Stand b c d e g) q = absurd (cc)
     move_election h i x y l is f (Grant c z b d e g none t q2 j k m) q =
-        let w = election_later h i i x.term y x.log y.log l.0 (f (cc)) (rw k (front_refl x.log)) in
+        let w = election_later h i i x.term y x.log y.log l.0 (f (cc)) (rw k (prefix_refl x.log)) in
         subst (λ (u : ℕ). Election view voters (After h i y) i u y.log) (sym t) w
     move_election h i x y l is f (Lead b q2 c d e g k) q =
         let w : Election view voters (After h i y) i x.term y.log = record {
@@ -172,21 +172,21 @@ module _ {E : Type 0} (view : EntryView E) where
           in_term = refl;
           quorum = quorum_map view voters (voters x.log) (λ v. Voted h v i x.term) (λ v. Ballot view (After h i y) v i x.term x.term x.log)
               (λ v p. ballot_later h i y v i x.term x.term x.log l.0 (strict h i v x y l is b e c (cast_of h (sound_past view voters h i y l) v i x.term p))) q2;
-          front = rw g (front_refl x.log);
+          prefix = rw g (prefix_refl x.log);
         } in
         subst (λ (u : ℕ). Election view voters (After h i y) i u y.log) (sym c) w
     move_election h i x y l is f (Extend s b q2 c d e g k change) q =
-        let w = election_later h i i x.term y x.log y.log l.0 (f b) (rw g (front_push x.log x.log s (front_refl x.log))) in
+        let w = election_later h i i x.term y x.log y.log l.0 (f b) (rw g (prefix_push x.log x.log s (prefix_refl x.log))) in
         subst (λ (u : ℕ). Election view voters (After h i y) i u y.log) (sym c) w
     move_election h i x y l is f (Accept j w m b c d e g k q2 r u) q = absurd (cc)
     move_election h i x y l is f (Learn j w b c d e g k r q2 u) q = absurd (cc)
     move_election h i x y l is f (Commit b c d e g t k r q2) q =
-        let w = election_later h i i x.term y x.log y.log l.0 (f b) (rw q2 (front_refl x.log)) in
+        let w = election_later h i i x.term y x.log y.log l.0 (f b) (rw q2 (prefix_refl x.log)) in
         subst (λ (u : ℕ). Election view voters (After h i y) i u y.log) (sym t) w
 
     -- who leads a term was voted for by a quorum, each view with a log that is no newer and of which what it had was kept
     pub elections : (h : History E) → Sound view voters h → (i : NodeId) (x : Node E) → Was h i x → x.role ≡ Leader → Election view voters h i x.term x.log
     elections = each view voters (Sound view voters) (sound_past view voters) (sound_move view voters) (λ h i x. x.role ≡ Leader → Election view voters h i x.term x.log)
         (λ i r. absurd (cc))
-        (λ h k y i x l w f r. election_later h k i x.term y x.log x.log l.0 (f r) (front_refl x.log))
+        (λ h k y i x l w f r. election_later h k i x.term y x.log x.log l.0 (f r) (prefix_refl x.log))
         (λ h i y l ih m. move_election h i (now h i) y l refl (ih i (now h i) (was_now h i)) m)

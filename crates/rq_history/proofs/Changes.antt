@@ -4,14 +4,14 @@ use Rattle.std.proofs.lemmas.Bool.{cases_lt}
 use Rattle.std.proofs.lemmas.List.{length-append, length-take, take-take, take-append-le}
 use Rattle.std.proofs.lemmas.List.{take_all, take_at}
 use Rattle.std.specs.Prelude.{Option}
-use Rattle.rq_history.specs.History.{NodeId, EntryView, Node, History, Begin, After, Was, now, Leader, Led, IsFront, term_at, last_term}
+use Rattle.rq_history.specs.History.{NodeId, EntryView, Node, History, Begin, After, Was, now, Leader, Led, IsPrefixOf, term_at, last_term}
 use Rattle.rq_history.specs.Moves.{Move, Lawful, Rise, Fall, Stand, Grant, Lead, Extend, Accept, Learn, Commit}
 use Rattle.rq_history.specs.Quorum.{HaveCommon}
 use Rattle.rq_history.proofs.Claims.{Whole, Changed, Ready}
 use Rattle.rq_history.specs.Commits.{DirectCommit, Backing}
 use Rattle.rq_history.specs.Configurations.{MayChange, is_given, is_configuration, configuration_index, voters_in}
 use Rattle.rq_history.proofs.Moments.{each, was_now}
-use Rattle.rq_history.proofs.Logs.{term_same, front_same, front_fits, term_new, entry_new}
+use Rattle.rq_history.proofs.Logs.{term_same, prefix_same, prefix_fits, term_new, entry_new}
 use Rattle.rq_history.proofs.Terms.{sorted}
 use Rattle.rq_history.proofs.Growth.{grows_now}
 use Rattle.rq_history.proofs.Backed.{backed, direct_later, whole_past}
@@ -49,8 +49,8 @@ module _ {E : Type 0} (view : EntryView E) where
         let led2 : Led h g.direct.who x.term g.leader = record { was = g.direct.led.was; leads = g.direct.led.leads; in_term = g.direct.led.in_term ∙ gt } in
         let who : g.direct.who ≡ i = w.0.1 g.direct.who i x.term g.leader x led2 led in
         let grown = grows_now view voters h w.0.0 i g.leader (subst (λ (k : NodeId). Was h k g.leader) who g.direct.led.was) g.direct.led.leads (subst (λ (z : Node E). z.role ≡ Leader) is lead) (led2.in_term ∙ ap (λ (z : Node E). z.term) is) in
-        let front : IsFront g.leader.log x.log = subst (λ (z : Node E). IsFront g.leader.log z.log) (sym is) grown.log in
-        let fit = front_fits g.leader.log x.log front in
+        let prefix : IsPrefixOf g.leader.log x.log = subst (λ (z : Node E). IsPrefixOf g.leader.log z.log) (sym is) grown.log in
+        let fit = prefix_fits g.leader.log x.log prefix in
         let nfit : g.n ≤ length x.log = omega (arith, g.direct.fits) in
         let lt : last_term view (x.log ++ e ∷ []) ≡ g.term = ap (term_at view (x.log ++ e ∷ [])) len ∙ term_new view x.log e ∙ t ∙ sym gt in
         record {
@@ -59,7 +59,7 @@ module _ {E : Type 0} (view : EntryView E) where
           direct = subst (λ (k : ℕ). DirectCommit view voters h k g.n g.leader) (sym lt) g.direct;
           covers = subst (λ (l : List E). configuration_index view l ≤ g.n) (sym cut) (omega (arith, m.settled, g.covers));
           short = omega (arith, len);
-          same = front_same g.leader.log x.log g.n g.direct.fits front ∙ sym (take-append-le g.n x.log (e ∷ []) nfit);
+          same = prefix_same g.leader.log x.log g.n g.direct.fits prefix ∙ sym (take-append-le g.n x.log (e ∷ []) nfit);
           near = subst (λ (l : List E). HaveCommon (voters l) (voters (x.log ++ e ∷ []))) (sym cut) m.near;
         })
         (backed view voters h w i x wx).by_leader

@@ -7,7 +7,7 @@ use Rattle.rq_history.proofs.Claims.{Sound, Whole, CompleteAt, OneLeader}
 use Rattle.rq_history.specs.Votes.{Ballot, Cast, Election}
 use Rattle.rq_history.specs.Commits.{DirectCommit}
 use Rattle.rq_history.proofs.Moments.{ordered, was_now}
-use Rattle.rq_history.proofs.Logs.{same_fits, front_same}
+use Rattle.rq_history.proofs.Logs.{same_fits, prefix_same}
 use Rattle.rq_history.proofs.Quorums.{quorums_meet}
 use Rattle.rq_history.proofs.Votes.{one_vote, quorum_map}
 use Rattle.rq_history.proofs.Terms.{below}
@@ -29,7 +29,7 @@ module _ {E : Type 0} (view : EntryView E) where
         λ t2 n2 l2 d2 k m w led2 a c. complete_below h s all b t2 n2 m k l2 w d2 led2 a (omega arith) in
         let has = has_all view first h s all u j e.stood e.was e.stands e.in_term low u (omega arith) e.quorum low t n l d lt in
         let fit = same_fits l.log e.stood.log n d.fits (sym has) in
-        cc (has, front_same e.stood.log z.log n fit e.front)
+        cc (has, prefix_same e.stood.log z.log n fit e.prefix)
 
     complete_at : (h : History E) → Sound view (voters view first) h → AllChanged view first h → CompleteAt view (voters view first) h
     complete_at h s all t n u j l z d led lt = complete_below h s all (u + 1) t n u j l z d led lt (omega arith)

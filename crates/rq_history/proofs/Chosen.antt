@@ -4,7 +4,7 @@ use Rattle.std.proofs.Common.{[]}
 use Rattle.std.proofs.lemmas.List.{take-take}
 use Rattle.std.proofs.lemmas.Bool.Decides.{nat_tests}
 use Rattle.std.proofs.lemmas.List.{length-take-le}
-use Rattle.rq_history.specs.History.{NodeId, EntryView, Node, History, Begin, After, Was, fresh, IsFront}
+use Rattle.rq_history.specs.History.{NodeId, EntryView, Node, History, Begin, After, Was, fresh, IsPrefixOf}
 use Rattle.rq_history.proofs.Claims.{Whole}
 use Rattle.rq_history.specs.Commits.{Backing, Backed, chosen}
 use Rattle.rq_history.proofs.Backed.{backed, same_committed, whole_past}
@@ -35,9 +35,9 @@ module _ {E : Type 0} where
 
 module _ {E : Type 0} (view : EntryView E) where
   module _ (voters : List E → List NodeId) where
-    -- of two committed fronts the shorter is a front of the longer
-    pub fronts : (h : History E) → Whole view voters h → (i j : NodeId) (x y : Node E) → Was h i x → Was h j y → x.commit ≤ y.commit → IsFront (take x.commit x.log) (take y.commit y.log)
-    fronts h s i j x y v w le =
+    -- of two committed prefixes the shorter is a prefix of the longer
+    pub prefixes : (h : History E) → Whole view voters h → (i j : NodeId) (x y : Node E) → Was h i x → Was h j y → x.commit ≤ y.commit → IsPrefixOf (take x.commit x.log) (take y.commit y.log)
+    prefixes h s i j x y v w le =
         let a = backed view voters h s i x v in
         let b = backed view voters h s j y w in
         let len : length (take x.commit x.log) ≡ x.commit = length-take-le x.commit x.log a.fits in
@@ -64,16 +64,16 @@ module _ {E : Type 0} (view : EntryView E) where
         let b = longer h k y (backed view voters (After h k y) s k y (inl (refl, refl))) in
         omega (arith, b.0)
 
-    -- each committed front is a front of the one log
-    pub in_chosen : (h : History E) → Whole view voters h → (i : NodeId) (x : Node E) → Was h i x → IsFront (take x.commit x.log) (chosen h)
+    -- each committed prefix is a prefix of the one log
+    pub in_chosen : (h : History E) → Whole view voters h → (i : NodeId) (x : Node E) → Was h i x → IsPrefixOf (take x.commit x.log) (chosen h)
     in_chosen h s i x w =
         let c = chosen_was h in
         let g = backed view voters h s c.who c.node c.was in
         let len : length (chosen h) ≡ c.node.commit = ap length c.same ∙ length-take-le c.node.commit c.node.log g.fits in
-        subst (λ (l : List E). IsFront (take x.commit x.log) l) (sym c.same) (fronts h s i c.who x c.node w c.was (omega (arith, within h s i x w)))
+        subst (λ (l : List E). IsPrefixOf (take x.commit x.log) l) (sym c.same) (prefixes h s i c.who x c.node w c.was (omega (arith, within h s i x w)))
 
     -- the one log only grows
-    pub chosen_grows : (h : History E) (i : NodeId) (y : Node E) → Whole view voters (After h i y) → IsFront (chosen h) (chosen (After h i y))
+    pub chosen_grows : (h : History E) (i : NodeId) (y : Node E) → Whole view voters (After h i y) → IsPrefixOf (chosen h) (chosen (After h i y))
     chosen_grows h i y s =
         let c = chosen_was h in
-        subst (λ (l : List E). IsFront l (chosen (After h i y))) (sym c.same) (in_chosen (After h i y) s c.who c.node (inr c.was))
+        subst (λ (l : List E). IsPrefixOf l (chosen (After h i y))) (sym c.same) (in_chosen (After h i y) s c.who c.node (inr c.was))

@@ -26,12 +26,12 @@ abbrev pub Ready : {E : Type 0} → EntryView E → (List E → List NodeId) →
 Ready view voters Begin = ⊤
 Ready view voters (After h i y) = Whole view voters h
 
--- of a front that ends with a configuration: before it was appended, a leader of its term had committed an entry of that term, and with it the configuration before
-pub record Changed {E : Type 0} (view : EntryView E) (voters : List E → List NodeId) (past : History E) (front : List E) : Type 0 where
+-- of a prefix that ends with a configuration: before it was appended, a leader of its term had committed an entry of that term, and with it the configuration before
+pub record Changed {E : Type 0} (view : EntryView E) (voters : List E → List NodeId) (past : History E) (prefix : List E) : Type 0 where
   pub n : ℕ
   pub leader : Node E
-  pub direct : DirectCommit view voters past (last_term view front) n leader
-  pub covers : configuration_index view (take (length front - 1) front) ≤ n
-  pub short : length leader.log < length front
-  pub same : take n leader.log ≡ take n front
-  pub near : HaveCommon (voters (take (length front - 1) front)) (voters front)
+  pub direct : DirectCommit view voters past (last_term view prefix) n leader
+  pub covers : configuration_index view (take (length prefix - 1) prefix) ≤ n
+  pub short : length leader.log < length prefix
+  pub same : take n leader.log ≡ take n prefix
+  pub near : HaveCommon (voters (take (length prefix - 1) prefix)) (voters prefix)

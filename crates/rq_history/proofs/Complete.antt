@@ -8,14 +8,14 @@ use Rattle.rq_history.proofs.Claims.{Sound}
 use Rattle.rq_history.specs.Votes.{Lost, Ballot, Election}
 use Rattle.rq_history.specs.Commits.{DirectCommit}
 use Rattle.rq_history.proofs.Quorums.{quorums_meet}
-use Rattle.rq_history.proofs.Logs.{same_less, term_same, same_fits, front_same}
+use Rattle.rq_history.proofs.Logs.{same_less, term_same, same_fits, prefix_same}
 use Rattle.rq_history.proofs.Terms.{below, sorted}
 use Rattle.rq_history.proofs.Origins.{origins, led_same}
 use Rattle.rq_history.proofs.Ballots.{elections}
 
 module _ {E : Type 0} (view : EntryView E) where
   module _ (voters : List E → List NodeId) where
-    -- who is at least as new as a log that has the committed front has it, where the leaders of later terms have it
+    -- who is at least as new as a log that has the committed prefix has it, where the leaders of later terms have it
     newest : (h : History E) → Sound view voters h → (i v who : NodeId) (n : ℕ) (e x l : Node E) → Was h i e → Was h v x → Was h who l → IsUpToDate view e.log x.log
         → 0 < n → n ≤ length l.log → take n x.log ≡ take n l.log
         → ((k : NodeId) (m : ℕ) (w : Node E) → Led h k m w → term_at view l.log n < m → m ≤ last_term view e.log → take n w.log ≡ take n l.log)
@@ -88,7 +88,7 @@ module _ {E : Type 0} (view : EntryView E) where
         → take n z.log ≡ take n l.log
     step h s t n u j l z d e meet lt later =
         let has = candidate_has h s t n u u j l e.stood d e.was e.stands e.in_term e.quorum meet lt (omega arith) later in
-        cc (has.1, front_same e.stood.log z.log n has.0 e.front)
+        cc (has.1, prefix_same e.stood.log z.log n has.0 e.prefix)
 
     complete_below : (h : History E) → Sound view voters h → ((a b : List E) → HaveCommon (voters a) (voters b)) → (k t n u : ℕ) (j : NodeId) (l z : Node E) → DirectCommit view voters h t n l → Led h j u z → t < u → u < k → take n z.log ≡ take n l.log
     complete_below h s meet zero t n u j l z d led lt le = absurd (omega arith)

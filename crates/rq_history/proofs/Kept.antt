@@ -33,7 +33,7 @@ module _ {E : Type 0} (view : EntryView E) where
         inl (cc (ap (take n) l, take-append-le n x.log (e ∷ []) f))
     stays_push h i n z x y e l t fits (inr o) = inr (lost_later h i y z.term (x.term + 1) (y.term + 1) n z.log (omega arith) o)
 
-    -- is the front of length n of the leader's log that of z
+    -- is the start of length n of the leader's log that of z
     pub same_or_not : (h : History E) → Sound view voters h → (i j : NodeId) (z w : Node E) → Was h i z → Was h j w → (n : ℕ) → n ≤ length z.log
         → ((n ≤ length w.log) × (take n w.log ≡ take n z.log)) ⊎ (take n w.log ≢ take n z.log)
     same_or_not h l i j z w a b n fits = go (cases_lt (length w.log) n) (cases_eq (term_at view w.log n) (term_at view z.log n))
@@ -48,7 +48,7 @@ module _ {E : Type 0} (view : EntryView E) where
         → y.log ≡ take m w.log → y.term ≡ x.term → 0 < n → n ≤ length z.log → term_at view z.log n ≡ z.term → take n x.log ≡ take n z.log → Stays (After h i y) n (y.term + 1) y.log z
     stays_accept h l i j m n z x y w was old led fits new log term some len own same = go (same_or_not h l i j z w was led.was n len) (cases_lt m n)
       where
-        -- a front of w that z has too is in x
+        -- a prefix of w that z has too is in x
         short : m ≤ n → take m w.log ≡ take m z.log → Prim.⊥
         short le e = new (cc (same_less x.log z.log n m le same, e))
 

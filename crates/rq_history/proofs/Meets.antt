@@ -26,7 +26,7 @@ module _ {E : Type 0} (view : EntryView E) where
     abbrev pub AllChanged : History E → Type 0
     AllChanged h = (i : NodeId) (x : Node E) → Was h i x → (c : ℕ) → 0 < c → c ≤ length x.log → is_configuration view x.log c ≡ true → Changed view voters h (take c x.log)
 
-    -- what a change at index c tells, without its front
+    -- what a change at index c tells, without its prefix
     pub record Told (h : History E) (log : List E) (c : ℕ) : Type 0 where
       pub n : ℕ
       pub leader : Node E

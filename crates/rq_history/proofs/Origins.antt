@@ -6,7 +6,7 @@ use Rattle.rq_history.specs.History.{NodeId, EntryView, Node, History, After, Wa
 use Rattle.rq_history.specs.Moves.{Move, Lawful, Rise, Fall, Stand, Grant, Lead, Extend, Accept, Learn, Commit}
 use Rattle.rq_history.proofs.Claims.{Sound}
 use Rattle.rq_history.proofs.Moments.{law_past, law_move, led_later, each, was_now}
-use Rattle.rq_history.proofs.Logs.{term_new, term_same, front_same}
+use Rattle.rq_history.proofs.Logs.{term_new, term_same, prefix_same}
 use Rattle.rq_history.proofs.Growth.{one_log}
 
 module _ {E : Type 0} (view : EntryView E) where
@@ -17,7 +17,7 @@ module _ {E : Type 0} (view : EntryView E) where
     pub origin_later : (h : History E) (k : NodeId) (y : Node E) (log : List E) (n : ℕ) → Origin view h log n → Origin view (After h k y) log n
     origin_later h k y log n o = record { who = o.who; leader = o.leader; led = led_later view voters h k y o.who (term_at view log n) o.leader o.led; fits = o.fits; same = o.same }
 
-    -- the same front has the same origin
+    -- the same prefix has the same origin
     pub origin_same : (h : History E) (a b : List E) (n : ℕ) → take n a ≡ take n b → Origin view h a n → Origin view h b n
     origin_same h a b n e o = record { who = o.who; leader = o.leader; led = record { was = o.led.was; leads = o.led.leads; in_term = cc (o.led.in_term, term_same view a b n n (omega arith) e) }; fits = o.fits; same = cc (o.same) }
 
@@ -54,10 +54,10 @@ module _ {E : Type 0} (view : EntryView E) where
     origins = each view voters (Lawful view voters) (law_past view voters) (law_move view voters) (λ h i x. Origins h x.log) (λ i n p f. absurd (omega arith)) (λ h k y i x l w o n p f. origin_later h k y x.log n (o n p f))
         (λ h i y l ih m. move_origins h i (now h i) y ih (ih i (now h i) (was_now h i)) m)
 
-    -- two fronts of the logs of leaders of one term are the same
+    -- two prefixes of the logs of leaders of one term are the same
     pub led_same : (h : History E) → Sound view voters h → (i j : NodeId) (term : ℕ) (x y : Node E) → Led h i term x → Led h j term y
         → (n : ℕ) → n ≤ length x.log → n ≤ length y.log → take n x.log ≡ take n y.log
-    led_same h l i j term x y p q n a b = ⊎_elim (λ f. front_same x.log y.log n a f) (λ f. sym (front_same y.log x.log n b f)) (one_log view voters h l i j term x y p q)
+    led_same h l i j term x y p q n a b = ⊎_elim (λ f. prefix_same x.log y.log n a f) (λ f. sym (prefix_same y.log x.log n b f)) (one_log view voters h l i j term x y p q)
 
     -- two logs with an entry of one term at one index are the same up to it
     pub matching : (h : History E) → Sound view voters h → (i j : NodeId) (x y : Node E) → Was h i x → Was h j y

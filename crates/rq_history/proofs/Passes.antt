@@ -1,7 +1,7 @@
 -- A leader that a quorum still followed at a moment knew then all that was committed.
 use Rattle.std.proofs.Common.{◌≡◌, ◌⊎◌, ℕ, suc, zero, ◌+◌, ◌<◌, ◌≤◌, List, length, take, ap, sym, subst, ◌∙◌, inl, inr, ⊎_elim, arith}
 use Rattle.std.proofs.lemmas.Bool.{cases_lt}
-use Rattle.rq_history.specs.History.{NodeId, EntryView, Node, History, Was, now, Leader, Led, IsFront, term_at, WasBefore, IsEarlier}
+use Rattle.rq_history.specs.History.{NodeId, EntryView, Node, History, Was, now, Leader, Led, IsPrefixOf, term_at, WasBefore, IsEarlier}
 use Rattle.rq_history.specs.Moves.{Held}
 use Rattle.rq_history.specs.Quorum.{Quorum}
 use Rattle.rq_history.proofs.Claims.{Whole}
@@ -9,7 +9,7 @@ use Rattle.rq_history.specs.Votes.{Ballot, Election}
 use Rattle.rq_history.specs.Commits.{DirectCommit, Backing}
 use Rattle.rq_history.specs.Configurations.{configuration_index}
 use Rattle.rq_history.proofs.Moments.{ordered, was_now, held_on, led_on}
-use Rattle.rq_history.proofs.Logs.{term_same, same_fits, front_same, front_trans}
+use Rattle.rq_history.proofs.Logs.{term_same, same_fits, prefix_same, prefix_trans}
 use Rattle.rq_history.proofs.Quorums.{quorums_meet}
 use Rattle.rq_history.proofs.Votes.{quorum_map}
 use Rattle.rq_history.proofs.Terms.{below, sorted}
@@ -46,15 +46,15 @@ module _ {E : Type 0} (view : EntryView E) where
         was0 : Was h0 i (now h0 i)
         was0 = was_now h0 i
 
-        front : IsFront (now h0 i).log (now h i).log
-        front = (grows_now view (voters view first) h w.0.0 i (now h0 i) (later i (now h0 i) was0) lead0 lead (in0 ∙ sym in1)).log
+        prefix : IsPrefixOf (now h0 i).log (now h i).log
+        prefix = (grows_now view (voters view first) h w.0.0 i (now h0 i) (later i (now h0 i) was0) lead0 lead (in0 ∙ sym in1)).log
 
         -- a leader of this term before
-        own : (k : NodeId) (z : Node E) → Led h0 k term z → IsFront z.log (now h i).log
+        own : (k : NodeId) (z : Node E) → Led h0 k term z → IsPrefixOf z.log (now h i).log
         own k z led =
             let ki : k ≡ i = w0.0.1 k i term z (now h0 i) led (record { was = was0; leads = lead0; in_term = in0 }) in
             let g = grows_now view (voters view first) h0 w0.0.0 i z (subst (λ (j : NodeId). Was h0 j z) ki led.was) led.leads lead0 (led.in_term ∙ sym in0) in
-            front_trans z.log (now h0 i).log (now h i).log g.log front
+            prefix_trans z.log (now h0 i).log (now h i).log g.log prefix
 
         -- what was committed before in a term up to this one is in its log
         has_direct : (t n : ℕ) (l : Node E) → t ≤ term → DirectCommit view (voters view first) h0 t n l → take n (now h i).log ≡ take n l.log
@@ -62,7 +62,7 @@ module _ {E : Type 0} (view : EntryView E) where
             (λ (lt : t < term). w.1 t n term i l (now h i) (direct_on h0 h t n l later d) (record { was = was_now h i; leads = lead; in_term = in1 }) lt)
             (λ (ge : term ≤ t).
             let e : t ≡ term = omega arith in
-            sym (front_same l.log (now h i).log n d.fits (own d.who l (subst (λ (u : ℕ). Led h0 d.who u l) e d.led))))
+            sym (prefix_same l.log (now h i).log n d.fits (own d.who l (subst (λ (u : ℕ). Led h0 d.who u l) e d.led))))
             (cases_lt t term)
 
         step : (t : ℕ) → term < t → ((u : ℕ) (k : NodeId) (z : Node E) → term < u → u < t → Led h0 k u z → Prim.⊥) → (k : NodeId) (z : Node E) → Led h0 k t z → Prim.⊥

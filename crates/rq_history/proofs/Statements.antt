@@ -5,9 +5,9 @@ use Rattle.rq_history.specs.History.{NodeId, EntryView, After, now, Was, Led, te
 use Rattle.rq_history.specs.Configurations.{newest_voters}
 use Rattle.rq_history.specs.Votes.{Election}
 use Rattle.rq_history.specs.Commits.{Backing}
-use Rattle.rq_history.specs.Laws.{OneLeaderATerm, OneVoteATerm, TimeGoesOn, LogsMatch, EntriesComeFromLeaders, TermsRise, TermsAreReached, LeadersGrow, LeadersDontStandAgain, VotesTell, LeadersAreElected, LeadersAreComplete, CommitsAreBacked, CommittedStays, LeadersAgree, CommittedFrontsAgree, ChosenGrows, ChosenHolds, ChosenWasCommitted, LeadersCover, LaterEntriesCover, NeighboursMeet, ConfigurationsCountFromAppend, MeetingQuorumsSuffice, MomentsAreOrdered, ChangesAreLocal}
+use Rattle.rq_history.specs.Laws.{OneLeaderATerm, OneVoteATerm, TimeGoesOn, LogsMatch, EntriesComeFromLeaders, TermsRise, TermsAreReached, LeadersGrow, LeadersDontStandAgain, VotesTell, LeadersAreElected, LeadersAreComplete, CommitsAreBacked, CommittedStays, LeadersAgree, CommittedPrefixesAgree, ChosenGrows, ChosenHolds, ChosenWasCommitted, LeadersCover, LaterEntriesCover, NeighboursMeet, ConfigurationsCountFromAppend, MeetingQuorumsSuffice, MomentsAreOrdered, ChangesAreLocal}
 use Rattle.rq_history.proofs.Claims.{Whole}
-use Rattle.rq_history.proofs.Logs.{same_less, term_same, front_fits}
+use Rattle.rq_history.proofs.Logs.{same_less, term_same, prefix_fits}
 use Rattle.rq_history.proofs.Quorums.{one_more, one_less}
 use Rattle.rq_history.proofs.Moments as Moments
 use Rattle.rq_history.proofs.Votes as Votes
@@ -95,8 +95,8 @@ module _ {E : Type 0} (view : EntryView E) where
       cc (same_less z.log g.leader.log g.n x.commit g.covers has, g.same))
       (Backed.backed view (newest_voters view first) h w i x was).by_leader
 
-  pub committed_fronts_agree : CommittedFrontsAgree view
-  committed_fronts_agree first h l = Chosen.fronts view (newest_voters view first) h (Changing.whole view first h l)
+  pub committed_prefixes_agree : CommittedPrefixesAgree view
+  committed_prefixes_agree first h l = Chosen.prefixes view (newest_voters view first) h (Changing.whole view first h l)
 
   pub chosen_grows : ChosenGrows view
   chosen_grows first h k y l = Chosen.chosen_grows view (newest_voters view first) h k y (Changing.whole view first (After h k y) l)
@@ -139,4 +139,4 @@ module _ {E : Type 0} (view : EntryView E) where
           let led1 : Led early o.who term o.leader = record { was = o.led.was; leads = o.led.leads; in_term = o.led.in_term ∙ term_is } in
           let oi : o.who ≡ i = w0.0.1 o.who i term o.leader (now early i) led1 led0 in
           let g = Growth.grows_now view (newest_voters view first) early le i o.leader (subst (λ (m : NodeId). Was early m o.leader) oi o.led.was) o.led.leads lead (o.led.in_term ∙ term_is ∙ sym in_term) in
-          omega (arith, front_fits o.leader.log (now early i).log g.log, o.fits)
+          omega (arith, prefix_fits o.leader.log (now early i).log g.log, o.fits)

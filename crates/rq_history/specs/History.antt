@@ -73,9 +73,9 @@ term_at view log n = term_or_zero view (entry_at log n)
 abbrev pub last_term : {E : Type 0} → EntryView E → List E → ℕ
 last_term view log = term_at view log (length log)
 
--- the first list is a front of the second
-abbrev pub IsFront : {E : Type 0} → List E → List E → Type 0
-IsFront a b = take (length a) b ≡ a
+-- the first list is a prefix of the second
+abbrev pub IsPrefixOf : {E : Type 0} → List E → List E → Type 0
+IsPrefixOf a b = take (length a) b ≡ a
 
 -- a leader of the term that the log has at n had the same first n entries
 pub record Origin {E : Type 0} (view : EntryView E) (past : History E) (log : List E) (n : ℕ) : Type 0 where

@@ -1,6 +1,6 @@
 -- The laws of a history, to be held against Figure 3 of the extended Raft paper: whatever the nodes did, move by move, this holds of it.
 use Rattle.std.specs.Prelude.{ℕ, ◌<◌, ◌≤◌, ◌≡◌, ◌≢◌, ◌⊎◌, Some, List, [], ◌∷◌, ◌++◌, length, take}
-use Rattle.rq_history.specs.History.{NodeId, EntryView, Candidate, Leader, Node, History, After, now, Was, WasBefore, IsEarlier, Led, term_at, IsFront, Origin}
+use Rattle.rq_history.specs.History.{NodeId, EntryView, Candidate, Leader, Node, History, After, now, Was, WasBefore, IsEarlier, Led, term_at, IsPrefixOf, Origin}
 use Rattle.rq_history.specs.Quorum.{Quorum, HaveCommon}
 use Rattle.rq_history.specs.Configurations.{voters_or, newest_voters}
 use Rattle.rq_history.specs.Moves.{Voted, Lawful}
@@ -50,7 +50,7 @@ TermsAreReached {E = E} view = (first : List NodeId) (h : History E) → IsRun v
 -- Leader Append-Only: while a node leads, its log and its commit index only grow
 abbrev pub LeadersGrow : {E : Type 0} → EntryView E → Type 0
 LeadersGrow {E = E} view = (first : List NodeId) (h : History E) → IsRun view first h
-    → (i : NodeId) (a b : Node E) → WasBefore h i a b → a.role ≡ Leader → b.role ≡ Leader → a.term ≡ b.term → IsFront a.log b.log × (a.commit ≤ b.commit)
+    → (i : NodeId) (a b : Node E) → WasBefore h i a b → a.role ≡ Leader → b.role ≡ Leader → a.term ≡ b.term → IsPrefixOf a.log b.log × (a.commit ≤ b.commit)
 
 -- who has led a term is not its candidate afterwards
 abbrev pub LeadersDontStandAgain : {E : Type 0} → EntryView E → Type 0
@@ -87,19 +87,19 @@ abbrev pub LeadersAgree : {E : Type 0} → EntryView E → Type 0
 LeadersAgree {E = E} view = (first : List NodeId) (h : History E) → IsRun view first h
     → (i j : NodeId) (x z : Node E) (u n : ℕ) → Was h i x → Led h j u z → x.term ≤ u → n ≤ x.commit → n ≤ length z.log → take n z.log ≡ take n x.log
 
--- State Machine Safety: of what any two nodes have committed, at any two moments, the shorter is a front of the longer
-abbrev pub CommittedFrontsAgree : {E : Type 0} → EntryView E → Type 0
-CommittedFrontsAgree {E = E} view = (first : List NodeId) (h : History E) → IsRun view first h
-    → (i j : NodeId) (x y : Node E) → Was h i x → Was h j y → x.commit ≤ y.commit → IsFront (take x.commit x.log) (take y.commit y.log)
+-- State Machine Safety: of what any two nodes have committed, at any two moments, the shorter is a prefix of the longer
+abbrev pub CommittedPrefixesAgree : {E : Type 0} → EntryView E → Type 0
+CommittedPrefixesAgree {E = E} view = (first : List NodeId) (h : History E) → IsRun view first h
+    → (i j : NodeId) (x y : Node E) → Was h i x → Was h j y → x.commit ≤ y.commit → IsPrefixOf (take x.commit x.log) (take y.commit y.log)
 
 -- the longest that was committed so far only grows
 abbrev pub ChosenGrows : {E : Type 0} → EntryView E → Type 0
-ChosenGrows {E = E} view = (first : List NodeId) (h : History E) (k : NodeId) (y : Node E) → IsRun view first (After h k y) → IsFront (chosen h) (chosen (After h k y))
+ChosenGrows {E = E} view = (first : List NodeId) (h : History E) (k : NodeId) (y : Node E) → IsRun view first (After h k y) → IsPrefixOf (chosen h) (chosen (After h k y))
 
 -- it begins with what each node has committed at any moment
 abbrev pub ChosenHolds : {E : Type 0} → EntryView E → Type 0
 ChosenHolds {E = E} view = (first : List NodeId) (h : History E) → IsRun view first h
-    → (i : NodeId) (x : Node E) → Was h i x → IsFront (take x.commit x.log) (chosen h)
+    → (i : NodeId) (x : Node E) → Was h i x → IsPrefixOf (take x.commit x.log) (chosen h)
 
 -- it is what some node had committed
 abbrev pub ChosenWasCommitted : (E : Type 0) → Type 0

@@ -1,6 +1,6 @@
 -- What a vote says of the voter's log (extended Raft paper, section 5.4.1 and the proof of Leader Completeness in 5.4.3).
 use Rattle.std.specs.Prelude.{ℕ, ◌+◌, ◌<◌, ◌≤◌, ◌≡◌, ◌≢◌, ◌⊎◌, List, length, take}
-use Rattle.rq_history.specs.History.{NodeId, EntryView, Candidate, Leader, Node, History, Was, term_at, IsFront}
+use Rattle.rq_history.specs.History.{NodeId, EntryView, Candidate, Leader, Node, History, Was, term_at, IsPrefixOf}
 use Rattle.rq_history.specs.Quorum.{Quorum}
 use Rattle.rq_history.specs.Moves.{IsUpToDate, Voted}
 
@@ -42,4 +42,4 @@ pub record Election {E : Type 0} (view : EntryView E) (voters : List E → List 
   pub stands : stood.role ≡ Candidate
   pub in_term : stood.term ≡ term
   pub quorum : Quorum (voters stood.log) (λ v. Ballot view past v i term term stood.log)
-  pub front : IsFront stood.log log
+  pub prefix : IsPrefixOf stood.log log

@@ -18,7 +18,7 @@ ghost use Rattle.rq_history.specs.Laws.{
   CommitsAreBacked,
   CommittedStays,
   LeadersAgree,
-  CommittedFrontsAgree,
+  CommittedPrefixesAgree,
   ChosenGrows,
   ChosenHolds,
   ChosenWasCommitted,
@@ -106,9 +106,9 @@ pub fn leaders_agree<E>()
     ensures { (view : EntryView E) → LeadersAgree view }
 {}
 
-/// State Machine Safety: the committed fronts of any two moments are comparable.
-pub fn committed_fronts_agree<E>()
-    ensures { (view : EntryView E) → CommittedFrontsAgree view }
+/// State Machine Safety: the committed prefixes of any two moments are comparable.
+pub fn committed_prefixes_agree<E>()
+    ensures { (view : EntryView E) → CommittedPrefixesAgree view }
 {}
 
 /// The longest that was committed so far only grows.

@@ -63,7 +63,7 @@ same_kind (Body n) = tt
 same_kind (Long n) = tt
 same_kind Bad = tt
 
--- the head at the front is one
+-- the head at the start is one
 one_head : (bytes : List ℕ) (m n : ℕ) (h k : RequestHead) → front_of bytes ≡ Head m → front_of bytes ≡ Head n → IsHead (take m bytes) h → IsHead (take n bytes) k → (m ≡ n) × (h ≡ k)
 one_head bytes m n h k fm fn is other =
     let same : m ≡ n = ap size_of (sym fm ∙ fn) in

@@ -16,7 +16,7 @@ use Rattle.rq_http.specs.Request.{Request, IsNext, IsRefused, IsUnfinished, IsHe
 use Rattle.rq_http.specs.declared.head.Framing.TheVariants.{Body}
 use Rattle.rq_http.specs.Framing.{framing_of, closes_after}
 
--- what stands at the front, whatever follows; only a part may still become something else
+-- what stands at the start, whatever follows; only a part may still become something else
 abbrev pub IsFound : List ℕ → Front → Type 0
 IsFound held (Head size) = (size ≤ length held) × (size ≤ 16384) × ((more : List ℕ) → front_of (held ++ more) ≡ Head size)
 IsFound held Broken = (more : List ℕ) → front_of (held ++ more) ≡ Broken

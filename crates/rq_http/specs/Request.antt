@@ -24,7 +24,7 @@ fields_of h = map name_and_value h.fields
 abbrev pub IsHead : List ℕ → RequestHead → Type 0
 IsHead bytes h = ReadsRequest bytes h [] × (length h.fields ≤ 64)
 
--- the request at the front, whether the connection ends after it, and what follows
+-- the request at the start, whether the connection ends after it, and what follows
 pub record IsNext (bytes : List ℕ) (r : Request) (closes : Bool) (rest : List ℕ) : Type 0 where
   pub size : ℕ
   pub front : front_of bytes ≡ Head size
@@ -36,7 +36,7 @@ pub record IsNext (bytes : List ℕ) (r : Request) (closes : Bool) (rest : List 
   pub target : h.target ≡ r.target
   pub closes_is : closes ≡ closes_after h.method h.minor (fields_of h)
 
--- the head at the front is refused
+-- the head at the start is refused
 pub data IsRefused (bytes : List ℕ) : Refusal → Type 0 where
   broken : front_of bytes ≡ Broken → IsRefused bytes BadHead
   -- no head within the limits whose body is framed

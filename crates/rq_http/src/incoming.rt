@@ -85,7 +85,7 @@ fn scan_on(held: &[u8], scanned: usize, place: Place) -> Front
     }
 }
 
-/// Reads up to the end of the head at the front.
+/// Reads up to the end of the head at the start.
 pub fn find_head<S: Source>(
     held: &mut Vec<u8>,
     source: &mut S,
@@ -152,7 +152,7 @@ enum Judged {
     Refused(Refusal),
 }
 
-/// Judges the head of so many bytes at the front.
+/// Judges the head of so many bytes at the start.
 fn judge(held: &[u8], size: usize) -> Judged
     requires { IsFound held.now (Head size) }
     ensures { IsJudged held.now size result }

@@ -1,4 +1,4 @@
--- How the tokens of a text follow from what stands in front.
+-- How the tokens of a text follow from what stands before it.
 use Rattle.std.proofs.Common.{◌≡◌, ℕ, zero, suc, ◌+◌, ◌-◌, ◌<◌, ◌≤◌, Bool, true, false, ◌&&◌, cond, List, [], ◌∷◌, length, drop, refl, sym, ap, subst, ◌∙◌, arith, None, length-drop}
 use Rattle.std.specs.Prelude.{slice_index, ◌==◌}
 use Rattle.std.specs.List.{prefix_len}
@@ -8,9 +8,9 @@ use Rattle.std.proofs.lemmas.List.Sums.{prefix_len-le-length}
 use Rattle.rq_grammar.specs.declared.token.Token.{Token}
 use Rattle.rq_grammar.specs.Words.{Text}
 use Rattle.rq_lexer.specs.declared.placed.Placed.{Placed}
-use Rattle.rq_lexer.specs.Lex.{Front, is_blank, is_in_line, behind_comment, blank_len, front, piece_of, piece, placed, lex_from, lex}
+use Rattle.rq_lexer.specs.Lex.{Front, is_blank, is_in_line, behind_comment, blank_len, prefix, piece_of, piece, placed, lex_from, lex}
 use Rattle.rq_lexer.specs.Facts.{IsCut, InOrder}
-use Rattle.rq_lexer.proofs.Fronts.{front_is}
+use Rattle.rq_lexer.proofs.Prefixes.{prefix_is}
 
 -- ---- a blank or a comment is within its text
 
@@ -44,7 +44,7 @@ blank_within z =
     comment (a ∷ []) h = grind (arith, nat_tests)
     comment (a ∷ b ∷ z) h = let most = comment_within 2 false z in omega arith
 
--- ---- what stands in front is cut off
+-- ---- what stands before it is cut off
 
 pub past : (at left : ℕ) (z : Text) → lex_from at left z ≡ lex_from (at + left) 0 (drop left z)
 unfolding lex_from
@@ -69,15 +69,15 @@ unfolding lex_from piece
 blank_goes at [] h = absurd (omega (arith, blank_within []))
 blank_goes at (b ∷ z) h =
     let n = blank_len (b ∷ z) in
-    ap (λ p. placed at p (lex_from (at + 1) (p.1 - 1) z)) (blank_piece n (front (b ∷ z)) h) ∙ behind at n b z h
+    ap (λ p. placed at p (lex_from (at + 1) (p.1 - 1) z)) (blank_piece n (prefix (b ∷ z)) h) ∙ behind at n b z h
 
 pub token_goes : (at : ℕ) (z : Text) → 1 ≤ length z → blank_len z ≡ 0
-    → lex_from at 0 z ≡ (record { token = (front z).0; start = at; end = at + (front z).1 }) ∷ lex_from (at + (front z).1) 0 (drop (front z).1 z)
+    → lex_from at 0 z ≡ (record { token = (prefix z).0; start = at; end = at + (prefix z).1 }) ∷ lex_from (at + (prefix z).1) 0 (drop (prefix z).1 z)
 unfolding lex_from piece
 token_goes at [] some h = absurd (omega arith)
 token_goes at (b ∷ z) some h =
-    let f = front (b ∷ z) in
-    let is = front_is (b ∷ z) some in
+    let f = prefix (b ∷ z) in
+    let is = prefix_is (b ∷ z) some in
     let here : Placed = record { token = f.0; start = at; end = at + f.1 } in
     ap (λ n. placed at (piece_of n f) (lex_from (at + 1) ((piece_of n f).1 - 1) z)) h ∙ ap (λ more. here ∷ more) (behind at f.1 b z is.some)
 
@@ -105,11 +105,11 @@ in_order at (suc left) (b ∷ z) =
 in_order at zero (b ∷ z) = by_blank (blank_len (b ∷ z)) (λ n. in_order (at + 1) n z)
   where
     f : Front
-    f = front (b ∷ z)
+    f = prefix (b ∷ z)
 
     by_blank : (n : ℕ) → ((k : ℕ) → InOrder (at + 1 + k) (at + 1 + length z) (lex_from (at + 1) k z)) → InOrder (at + 0) (at + suc (length z)) (placed at (piece_of n f) (lex_from (at + 1) ((piece_of n f).1 - 1) z))
     by_blank zero more =
-        let is = front_is (b ∷ z) (omega arith) in
+        let is = prefix_is (b ∷ z) (omega arith) in
         let some = is.some in
         let within = is.within in
         let d : at + 1 + (f.1 - 1) ≡ at + f.1 = omega arith in
@@ -134,7 +134,7 @@ few at (suc left) (b ∷ z) = let fewer = few (at + 1) left z in omega arith
 few at zero (b ∷ z) = by_blank (blank_len (b ∷ z)) (λ n. few (at + 1) n z)
   where
     f : Front
-    f = front (b ∷ z)
+    f = prefix (b ∷ z)
 
     by_blank : (n : ℕ) → ((k : ℕ) → length (lex_from (at + 1) k z) ≤ length z) → length (placed at (piece_of n f) (lex_from (at + 1) ((piece_of n f).1 - 1) z)) ≤ suc (length z)
     by_blank zero more = let fewer = more (f.1 - 1) in omega arith
@@ -157,25 +157,25 @@ pub takes_nothing : (text behind rest : Text) (at n : ℕ) → behind ≡ drop a
     → lex_from at 0 (drop at text) ≡ []
 takes_nothing text behind rest at n d e same none = ap (lex_from at 0) (sym d) ∙ same at ∙ nothing_left (at + n) (drop n behind) (ap length (sym e) ∙ none)
 
-pub takes : (text behind rest : Text) (at n : ℕ) (u : Token) (len : ℕ) → behind ≡ drop at text → rest ≡ drop n behind → ((k : ℕ) → lex_from k 0 behind ≡ lex_from (k + n) 0 (drop n behind)) → blank_len (drop n behind) ≡ 0 → 1 ≤ length rest → (u, len) ≡ front rest
+pub takes : (text behind rest : Text) (at n : ℕ) (u : Token) (len : ℕ) → behind ≡ drop at text → rest ≡ drop n behind → ((k : ℕ) → lex_from k 0 behind ≡ lex_from (k + n) 0 (drop n behind)) → blank_len (drop n behind) ≡ 0 → 1 ≤ length rest → (u, len) ≡ prefix rest
     → lex_from at 0 (drop at text) ≡ (record { token = u; start = at + n; end = at + n + len }) ∷ lex_from (at + n + len) 0 (drop (at + n + len) text)
 takes text behind rest at n u len d e same stops some f =
-    let g : front (drop n behind) ≡ (u, len) = ap front (sym e) ∙ sym f in
+    let g : prefix (drop n behind) ≡ (u, len) = ap prefix (sym e) ∙ sym f in
     let some' : 1 ≤ length (drop n behind) = subst (λ (y : Text). 1 ≤ length y) e some in
-    let shown : (front (drop n behind)).1 ≡ len = ap (λ (p : Front). p.1) g in
+    let shown : (prefix (drop n behind)).1 ≡ len = ap (λ (p : Front). p.1) g in
     let cut : List Placed = (record { token = u; start = at + n; end = at + n + len }) ∷ lex_from (at + n + len) 0 (drop len (drop n behind)) in
     let one : lex_from (at + n) 0 (drop n behind) ≡ cut = token_goes (at + n) (drop n behind) some' stops ∙ ap (λ (p : Front). (record { token = p.0; start = at + n; end = at + n + p.1 }) ∷ lex_from (at + n + p.1) 0 (drop p.1 (drop n behind))) g in
     let place : drop len (drop n behind) ≡ drop (at + n + len) text = ap (λ (y : Text). drop len (drop n y)) d ∙ ap (drop len) (drop-drop n at text) ∙ drop-drop len (at + n) text in
     ap (lex_from at 0) (sym d) ∙ same at ∙ one ∙ ap (λ (y : Text). (record { token = u; start = at + n; end = at + n + len }) ∷ lex_from (at + n + len) 0 y) place
 
-pub takes_within : (text behind rest : Text) (at n : ℕ) (u : Token) (len : ℕ) → at ≤ length text → behind ≡ drop at text → n ≤ length behind → rest ≡ drop n behind → 1 ≤ length rest → (u, len) ≡ front rest → at + n + len ≤ length text
+pub takes_within : (text behind rest : Text) (at n : ℕ) (u : Token) (len : ℕ) → at ≤ length text → behind ≡ drop at text → n ≤ length behind → rest ≡ drop n behind → 1 ≤ length rest → (u, len) ≡ prefix rest → at + n + len ≤ length text
 takes_within text behind rest at n u len le d le' e some f =
-    let is = front_is rest some in
+    let is = prefix_is rest some in
     let within : len ≤ length rest = subst (λ (p : Front). p.1 ≤ length rest) (sym f) is.within in
     omega (arith, ap length d, ap length e, length-drop at text, length-drop n behind)
 
-pub taken : (rest : Text) (start : ℕ) (u : Token) (len : ℕ) → 1 ≤ length rest → (u, len) ≡ front rest → (start < start + len) × IsCut u
+pub taken : (rest : Text) (start : ℕ) (u : Token) (len : ℕ) → 1 ≤ length rest → (u, len) ≡ prefix rest → (start < start + len) × IsCut u
 taken rest start u len some f =
-    let is = front_is rest some in
+    let is = prefix_is rest some in
     let moves : 1 ≤ len = subst (λ (p : Front). 1 ≤ p.1) (sym f) is.some in
     (omega arith, subst (λ (p : Front). IsCut p.0) (sym f) is.cut)

@@ -1,6 +1,6 @@
 pub mod Plain
 pub mod Numbers
-pub mod Fronts
+pub mod Prefixes
 pub mod Cut
 pub mod Spelled
 pub mod OneNext

@@ -15,7 +15,7 @@ use Rattle.rq_grammar.specs.declared.token.Token.TheVariants as t
 use Rattle.rq_grammar.specs.Words.{Text}
 use Rattle.rq_grammar.specs.Spelling.{begins_word, is_in_word, is_bare, word_of}
 use Rattle.rq_lexer.specs.declared.placed.Placed.{Placed}
-use Rattle.rq_lexer.specs.Lex.{Front, is_blank, blank_len, is_in_numeral, is_integer, number_of, word, parameter, numeral, closing, undoubled, up_to_closing, quoted, or_other, string, quoted_name, is_hex, bytes_of_hex, is_no_quote, blob, or_short, mark, is_in_line, behind_comment, is_x, front, piece_of, piece, placed, lex_from, lex}
+use Rattle.rq_lexer.specs.Lex.{Front, is_blank, blank_len, is_in_numeral, is_integer, number_of, word, parameter, numeral, closing, undoubled, up_to_closing, quoted, or_other, string, quoted_name, is_hex, bytes_of_hex, is_no_quote, blob, or_short, mark, is_in_line, behind_comment, is_x, prefix, piece_of, piece, placed, lex_from, lex}
 use Rattle.rq_lexer.specs.Facts.{IsCut, InOrder}
 use Rattle.rq_lexer.specs.Spelled.{tokens_in, doubled, in_quotes, hex_digit, hex_byte, bytes_of, IsSpelled, ends_before}
 use Rattle.rq_lexer.proofs.Plain.{both, left, right}
@@ -54,18 +54,18 @@ pub blank_off : (rest : Text) → tokens_in (32 ∷ rest) ≡ tokens_in rest
 unfolding lex blank_len
 blank_off rest = ap (map (λ q. q.token)) (blank_goes 0 (32 ∷ rest) (omega arith)) ∙ same_tokens (0 + 1) 0 0 rest
 
-piece_is : (z : Text) (u : Token) (n : ℕ) → blank_len z ≡ 0 → front z ≡ (u, n) → piece z ≡ (Some u, n)
+piece_is : (z : Text) (u : Token) (n : ℕ) → blank_len z ≡ 0 → prefix z ≡ (u, n) → piece z ≡ (Some u, n)
 unfolding piece
-piece_is z u n h e = ap (λ k. piece_of k (front z)) h ∙ ap (λ (f : Front). piece_of 0 f) e
+piece_is z u n h e = ap (λ k. piece_of k (prefix z)) h ∙ ap (λ (f : Front). piece_of 0 f) e
 
 -- ---- choices
 
 no_blank : (p q q' r r' : Bool) (n m : ℕ) → p ≡ false → q ≡ false → r ≡ false → cond p 1 (cond (q && q') n (cond (r && r') m 0)) ≡ 0
 no_blank p q q' r r' n m h k l = rw (h, k, l) refl
 
-no_blank_in_front : (b : ℕ) (y : Text) → is_blank b ≡ false → (b == 45) ≡ false → (b == 47) ≡ false → blank_len (b ∷ y) ≡ 0
+no_blank_in_prefix : (b : ℕ) (y : Text) → is_blank b ≡ false → (b == 45) ≡ false → (b == 47) ≡ false → blank_len (b ∷ y) ≡ 0
 unfolding blank_len
-no_blank_in_front b y h k l = no_blank (is_blank b) (b == 45) (slice_index y 0 == 45) (b == 47) (slice_index y 0 == 42) _ _ h k l
+no_blank_in_prefix b y h k l = no_blank (is_blank b) (b == 45) (slice_index y 0 == 45) (b == 47) (slice_index y 0 == 42) _ _ h k l
 
 second : (p q : Bool) (x y z : Front) → p ≡ false → q ≡ true → cond p x (cond q y z) ≡ y
 second p q x y z h k = rw (h, k) refl
@@ -125,23 +125,23 @@ and_false : (p q : Bool) → q ≡ false → (p && q) ≡ false
 and_false true q h = h
 and_false false q h = refl
 
-word_front : (n rest : Text) → is_bare n ≡ true → is_in_word (slice_index rest 0) ≡ false → word (n ++ rest) ≡ (t.Word n (word_of n), length n)
+word_prefix : (n rest : Text) → is_bare n ≡ true → is_in_word (slice_index rest 0) ≡ false → word (n ++ rest) ≡ (t.Word n (word_of n), length n)
 unfolding word
-word_front n rest bare stops =
+word_prefix n rest bare stops =
     ap (λ k. (t.Word (take k (n ++ rest)) (word_of (take k (n ++ rest))), k)) (run_is is_in_word n rest (all_in_word n bare) stops)
     ∙ ap (λ m. (t.Word m (word_of m), length n)) (take-append_seam n rest)
 
 word_piece : (n rest : Text) → is_bare n ≡ true → is_in_word (slice_index rest 0) ≡ false → (slice_index rest 0 == 39) ≡ false → piece (n ++ rest) ≡ (Some (t.Word n (word_of n)), length n)
-unfolding front
+unfolding prefix
 word_piece [] rest bare stops quote = absurd (omega (arith, some_bare [] bare))
 word_piece (b ∷ n) rest bare stops quote =
     let h = begins b n bare in
     let no = no_quote_behind n rest (right (is_in_word b) (list_all is_in_word n) (all_in_word (b ∷ n) bare)) quote in
-    piece_is (b ∷ (n ++ rest)) (t.Word (b ∷ n) (word_of (b ∷ n))) (suc (length n)) (no_blank_in_front b (n ++ rest) (begins_no_blank b h) (begins_no_minus b h) (begins_no_slash b h))
-    (second (is_x b && slice_index (n ++ rest) 0 == 39) (begins_word b) _ (word (b ∷ (n ++ rest))) _ (and_false (is_x b) (slice_index (n ++ rest) 0 == 39) no) h ∙ word_front (b ∷ n) rest bare stops)
+    piece_is (b ∷ (n ++ rest)) (t.Word (b ∷ n) (word_of (b ∷ n))) (suc (length n)) (no_blank_in_prefix b (n ++ rest) (begins_no_blank b h) (begins_no_minus b h) (begins_no_slash b h))
+    (second (is_x b && slice_index (n ++ rest) 0 == 39) (begins_word b) _ (word (b ∷ (n ++ rest))) _ (and_false (is_x b) (slice_index (n ++ rest) 0 == 39) no) h ∙ word_prefix (b ∷ n) rest bare stops)
 
 parameter_piece : (n rest : Text) → is_bare n ≡ true → is_in_word (slice_index rest 0) ≡ false → piece (58 ∷ (n ++ rest)) ≡ (Some (t.Parameter (Some n)), suc (length n))
-unfolding front blank_len parameter
+unfolding prefix blank_len parameter
 parameter_piece [] rest bare stops = absurd (omega (arith, some_bare [] bare))
 parameter_piece (b ∷ n) rest bare stops =
     let e : suc (length n) + 1 ≡ suc (suc (length n)) = omega arith in
@@ -153,9 +153,9 @@ parameter_piece (b ∷ n) rest bare stops =
 
 -- ---- numerals
 
-numeral_front : (s rest : Text) (u : Token) → list_all is_in_numeral s ≡ true → is_in_numeral (slice_index rest 0) ≡ false → cond (is_integer s) (t.Numeral (number_of s)) (t.OtherNumeral s) ≡ u → numeral (s ++ rest) ≡ (u, length s)
+numeral_prefix : (s rest : Text) (u : Token) → list_all is_in_numeral s ≡ true → is_in_numeral (slice_index rest 0) ≡ false → cond (is_integer s) (t.Numeral (number_of s)) (t.OtherNumeral s) ≡ u → numeral (s ++ rest) ≡ (u, length s)
 unfolding numeral
-numeral_front s rest u h stops is =
+numeral_prefix s rest u h stops is =
     ap (λ k. (cond (is_integer (take k (s ++ rest))) (t.Numeral (number_of (take k (s ++ rest)))) (t.OtherNumeral (take k (s ++ rest))), k)) (run_is is_in_numeral s rest h stops)
     ∙ ap (λ m. (cond (is_integer m) (t.Numeral (number_of m)) (t.OtherNumeral m), length s)) (take-append_seam s rest)
     ∙ ap (λ v. (v, length s)) is
@@ -176,11 +176,11 @@ digit_no_word : (b : ℕ) → is_ascii_digit b ≡ true → begins_word b ≡ fa
 digit_no_word b h = grind (arith, nat_tests)
 
 numeral_piece : (s rest : Text) (u : Token) → 1 ≤ length s → is_ascii_digit (slice_index s 0) ≡ true → list_all is_in_numeral s ≡ true → is_in_numeral (slice_index rest 0) ≡ false → cond (is_integer s) (t.Numeral (number_of s)) (t.OtherNumeral s) ≡ u → piece (s ++ rest) ≡ (Some u, length s)
-unfolding front
+unfolding prefix
 numeral_piece [] rest u some d h stops is = absurd (omega arith)
 numeral_piece (b ∷ s) rest u some d h stops is =
-    piece_is (b ∷ (s ++ rest)) u (suc (length s)) (no_blank_in_front b (s ++ rest) (digit_no_blank b d) (digit_no_minus b d) (digit_no_slash b d))
-    (third (is_x b) (slice_index (s ++ rest) 0 == 39) (begins_word b) (is_ascii_digit b) _ _ (numeral (b ∷ (s ++ rest))) _ (digit_no_x b d) (digit_no_word b d) d ∙ numeral_front (b ∷ s) rest u h stops is)
+    piece_is (b ∷ (s ++ rest)) u (suc (length s)) (no_blank_in_prefix b (s ++ rest) (digit_no_blank b d) (digit_no_minus b d) (digit_no_slash b d))
+    (third (is_x b) (slice_index (s ++ rest) 0 == 39) (begins_word b) (is_ascii_digit b) _ _ (numeral (b ∷ (s ++ rest))) _ (digit_no_x b d) (digit_no_word b d) d ∙ numeral_prefix (b ∷ s) rest u h stops is)
 
 -- what the digits of a number are
 pub record IsDecimal (n : ℕ) (s : Text) : Type 0 where
@@ -262,8 +262,8 @@ inside_quotes q s rest h stops =
     let d = doubled q s in
     let y = d ++ q ∷ rest in
     let one : 0 + length d + 1 ≡ length d + 1 = omega arith in
-    let front : length d + 1 - 1 ≡ length d = omega arith in
-    let inside : undoubled q false (take (length d + 1 - 1) y) ≡ s = ap (λ n. undoubled q false (take n y)) front ∙ ap (undoubled q false) (take-append_seam d (q ∷ rest)) ∙ undoubled_doubled q s in
+    let prefix : length d + 1 - 1 ≡ length d = omega arith in
+    let inside : undoubled q false (take (length d + 1 - 1) y) ≡ s = ap (λ n. undoubled q false (take n y)) prefix ∙ ap (undoubled q false) (take-append_seam d (q ∷ rest)) ∙ undoubled_doubled q s in
     ap (up_to_closing q y) (closing_doubled q 0 s rest stops ∙ ap Some one)
     ∙ ap (λ (m : Text). (cond (is_text m) (Some m) None, length d + 1)) inside
     ∙ ap (λ c. (cond c (Some s) None, length d + 1)) h
@@ -275,14 +275,14 @@ length_quotes : (q : ℕ) (s : Text) → length (in_quotes q s) ≡ length (doub
 length_quotes q s = let l = length-append (doubled q s) (q ∷ []) in let e : suc (length (doubled q s ++ q ∷ [])) ≡ length (doubled q s) + 1 + 1 = omega arith in e
 
 string_piece : (s rest : Text) → is_text s ≡ true → (slice_index rest 0 == 39) ≡ false → piece (in_quotes 39 s ++ rest) ≡ (Some (t.String s), length (in_quotes 39 s))
-unfolding front blank_len string
+unfolding prefix blank_len string
 string_piece s rest h stops =
     let y = doubled 39 s ++ 39 ∷ rest in
     let made : string (39 ∷ y) ≡ (t.String s, length (doubled 39 s) + 1 + 1) = ap (λ (r : Option Text × ℕ). (or_other t.String r.0, r.1 + 1)) (inside_quotes 39 s rest h stops) in
     ap piece (in_quotes_before 39 s rest) ∙ piece_is (39 ∷ y) (t.String s) (length (doubled 39 s) + 1 + 1) refl made ∙ ap (λ n. (Some (t.String s), n)) (sym (length_quotes 39 s))
 
 quoted_piece : (s rest : Text) → is_text s ≡ true → (slice_index rest 0 == 34) ≡ false → piece (in_quotes 34 s ++ rest) ≡ (Some (t.Quoted s), length (in_quotes 34 s))
-unfolding front blank_len quoted_name
+unfolding prefix blank_len quoted_name
 quoted_piece s rest h stops =
     let y = doubled 34 s ++ 34 ∷ rest in
     let made : quoted_name (34 ∷ y) ≡ (t.Quoted s, length (doubled 34 s) + 1 + 1) = ap (λ (r : Option Text × ℕ). (or_other t.Quoted r.0, r.1 + 1)) (inside_quotes 34 s rest h stops) in
@@ -333,9 +333,9 @@ hex_read (b ∷ bytes) h =
 less : (n m : ℕ) → n < m → nat_lt n m ≡ true
 less n m h = grind (arith, nat_tests)
 
-blob_front : (hex bytes rest : Text) → list_all is_no_quote hex ≡ true → is_hex hex ≡ true → bytes_of_hex hex ≡ bytes → blob (88 ∷ 39 ∷ (hex ++ 39 ∷ rest)) ≡ (t.Blob bytes, length hex + 3)
+blob_prefix : (hex bytes rest : Text) → list_all is_no_quote hex ≡ true → is_hex hex ≡ true → bytes_of_hex hex ≡ bytes → blob (88 ∷ 39 ∷ (hex ++ 39 ∷ rest)) ≡ (t.Blob bytes, length hex + 3)
 unfolding blob
-blob_front hex bytes rest free h e =
+blob_prefix hex bytes rest free h e =
     let y = hex ++ 39 ∷ rest in
     let n = run_is is_no_quote hex (39 ∷ rest) free refl in
     let l = length-append hex (39 ∷ rest) in
@@ -347,11 +347,11 @@ blob_front hex bytes rest free h e =
     ∙ ap (λ m. (t.Blob m, length hex + 3)) e
 
 blob_piece : (bytes rest : Text) → list_all (λ b. nat_lt b 256) bytes ≡ true → piece (bytes_of (t.Blob bytes) ++ rest) ≡ (Some (t.Blob bytes), length (bytes_of (t.Blob bytes)))
-unfolding front blank_len
+unfolding prefix blank_len
 blob_piece bytes rest h =
     let l = length-append (flat_map hex_byte bytes) (39 ∷ []) in
     let e : length (flat_map hex_byte bytes) + 3 ≡ suc (suc (length (flat_map hex_byte bytes ++ 39 ∷ []))) = omega arith in
-    let made = blob_front (flat_map hex_byte bytes) bytes rest (all_hex is_no_quote hex_no_quote bytes h) (hex_spelled bytes h) (hex_read bytes h) in
+    let made = blob_prefix (flat_map hex_byte bytes) bytes rest (all_hex is_no_quote hex_no_quote bytes h) (hex_spelled bytes h) (hex_read bytes h) in
     ap (λ z. piece (88 ∷ 39 ∷ z)) (append_assoc (flat_map hex_byte bytes) (39 ∷ []) rest)
     ∙ piece_is (88 ∷ 39 ∷ (flat_map hex_byte bytes ++ 39 ∷ rest)) (t.Blob bytes) (length (flat_map hex_byte bytes) + 3) refl made
     ∙ ap (λ k. (Some (t.Blob bytes), k)) e
@@ -359,25 +359,25 @@ blob_piece bytes rest h =
 -- ---- marks
 
 equal_piece : (rest : Text) → (slice_index rest 0 == 61) ≡ false → piece (61 ∷ rest) ≡ (Some t.Equal, 1)
-unfolding front blank_len mark
+unfolding prefix blank_len mark
 equal_piece rest h = piece_is (61 ∷ rest) t.Equal 1 refl (ap (λ c. or_short (61 ∷ rest) (cond (c && true) (Some t.EqualEqual) None)) h)
 
 less_piece : (rest : Text) → (slice_index rest 0 == 61) ≡ false → (slice_index rest 0 == 62) ≡ false → piece (60 ∷ rest) ≡ (Some t.Less, 1)
-unfolding front blank_len mark
+unfolding prefix blank_len mark
 less_piece rest h k =
     piece_is (60 ∷ rest) t.Less 1 refl
     (ap (λ c. or_short (60 ∷ rest) (cond (c && true) (Some t.LessGreater) (cond (slice_index rest 0 == 61 && true) (Some t.LessEqual) None))) k ∙ ap (λ c. or_short (60 ∷ rest) (cond (c && true) (Some t.LessEqual) None)) h)
 
 greater_piece : (rest : Text) → (slice_index rest 0 == 61) ≡ false → piece (62 ∷ rest) ≡ (Some t.Greater, 1)
-unfolding front blank_len mark
+unfolding prefix blank_len mark
 greater_piece rest h = piece_is (62 ∷ rest) t.Greater 1 refl (ap (λ c. or_short (62 ∷ rest) (cond (c && true) (Some t.GreaterEqual) None)) h)
 
 minus_piece : (rest : Text) → (slice_index rest 0 == 45) ≡ false → piece (45 ∷ rest) ≡ (Some t.Minus, 1)
-unfolding front blank_len mark
+unfolding prefix blank_len mark
 minus_piece rest h = piece_is (45 ∷ rest) t.Minus 1 (ap (λ c. cond c (prefix_len is_in_line (45 ∷ rest)) 0) h) refl
 
 slash_piece : (rest : Text) → (slice_index rest 0 == 42) ≡ false → piece (47 ∷ rest) ≡ (Some t.Slash, 1)
-unfolding front blank_len mark
+unfolding prefix blank_len mark
 slash_piece rest h = piece_is (47 ∷ rest) t.Slash 1 (ap (λ c. cond c (behind_comment 2 false (drop 1 rest)) 0) h) refl
 
 -- ---- every token
@@ -439,7 +439,7 @@ some_bytes t.Semi h = omega arith
 some_bytes t.Other h = absurd h
 
 piece_spelled : (u : Token) (rest : Text) → IsSpelled u → ends_before u (slice_index rest 0) ≡ true → piece (bytes_of u ++ rest) ≡ (Some u, length (bytes_of u))
-unfolding front blank_len mark
+unfolding prefix blank_len mark
 piece_spelled (t.Word n v) rest h stops =
     word_piece n rest h.0 (false_from_not (is_in_word (slice_index rest 0)) (left (not (is_in_word (slice_index rest 0))) (not (slice_index rest 0 == 39)) stops)) (false_from_not (slice_index rest 0 == 39) (right (not (is_in_word (slice_index rest 0))) (not (slice_index rest 0 == 39)) stops))
     ∙ ap (λ w. (Some (t.Word n w), length n)) (sym h.1)

@@ -18,12 +18,12 @@ is_blank b = b == 32 || b == 9 || b == 13 || b == 10
 abbrev pub is_in_line : ℕ → Bool
 is_in_line b = not (b == 10)
 
--- The place behind `*/`, or the end. `at` is the place of the front, and `star` says that a `*` stands before it.
+-- The place behind `*/`, or the end. `at` is the place of the start, and `star` says that a `*` stands before it.
 abbrev pub behind_comment : ℕ → Bool → Text → ℕ
 behind_comment at star [] = at
 behind_comment at star (b ∷ z) = if star && b == 47 then at + 1 else behind_comment (at + 1) (b == 42) z
 
--- how long the blank or the comment in front is, 0 where there is none
+-- how long the blank or the comment before it is, 0 where there is none
 unfoldable pub blank_len : Text → ℕ
 blank_len z =
     let b = slice_index z 0 in
@@ -33,7 +33,7 @@ blank_len z =
     else (if b == 47 && c == 42 then behind_comment 2 false (drop 2 z)
     else 0))
 
--- ---- tokens: each definition gives the token in front, and how long it is
+-- ---- tokens: each definition gives the token before it, and how long it is
 
 abbrev pub Front : Type 0
 Front = Token × ℕ
@@ -69,7 +69,7 @@ abbrev pub closing : ℕ → ℕ → Bool → Text → Option ℕ
 closing quote n is_open [] = if is_open then Some n else None
 closing quote n is_open (b ∷ z) = if is_open && not (b == quote) then Some n else closing quote (n + 1) (not is_open && b == quote) z
 
--- Each doubled quote once. `is_second` says that the byte in front is the second of two.
+-- Each doubled quote once. `is_second` says that the byte before it is the second of two.
 abbrev pub undoubled : ℕ → Bool → Text → Text
 undoubled quote is_second [] = []
 undoubled quote is_second (b ∷ z) = if is_second then undoubled quote false z else b ∷ undoubled quote (b == quote) z
@@ -131,7 +131,7 @@ abbrev pub mark_among : Marks → Text → Option Token
 mark_among [] z = None
 mark_among (m ∷ ms) z = if stands_at 0 z m.0 then Some m.1 else mark_among ms z
 
--- a well-formed character, the shortest front that is UTF-8; else one byte
+-- a well-formed character, the shortest prefix that is UTF-8; else one byte
 unfoldable pub char_len : Text → ℕ
 char_len z =
     if is_utf8 (take 1 z) then 1
@@ -159,9 +159,9 @@ is_x b = b == 88 || b == 120
 abbrev pub is_sigil : ℕ → Bool
 is_sigil b = b == 58 || b == 64 || b == 36
 
--- the token in front of a text that isn't empty and has neither blank nor comment in front
-unfoldable pub front : Text → Front
-front z =
+-- the token before a text that isn't empty and has neither blank nor comment before it
+unfoldable pub prefix : Text → Front
+prefix z =
     let b = slice_index z 0 in
     let c = slice_index z 1 in
     if is_x b && c == 39 then blob z
@@ -172,13 +172,13 @@ front z =
     else (if is_sigil b && begins_word c then parameter z
     else mark z)))))
 
--- what stands in front, with its length: None is a blank or a comment
+-- what stands before it, with its length: None is a blank or a comment
 abbrev pub piece_of : ℕ → Front → Option Token × ℕ
 piece_of zero f = (Some f.0, f.1)
 piece_of n f = (None, n)
 
 unfoldable pub piece : Text → Option Token × ℕ
-piece z = piece_of (blank_len z) (front z)
+piece z = piece_of (blank_len z) (prefix z)
 
 abbrev pub placed : ℕ → Option Token × ℕ → List Placed → List Placed
 placed at (None, len) more = more

@@ -3,8 +3,8 @@ ghost use Rattle.std.specs.Prelude.{◌≡◌, ℕ, ◌+◌, ◌<◌, ◌≤◌,
 ghost use Rattle.rq_lexer.specs.Lex.{lex, lex_from, blank_len};
 ghost use Rattle.rq_lexer.specs.Facts.{IsCut, IsNext};
 
-use crate::front::front;
 use crate::placed::Placed;
+use crate::prefix::prefix;
 use crate::scan;
 use rq_values::NoMemory;
 use std::alloc::Global;
@@ -37,7 +37,7 @@ fn from_place(text: &[u8], at: usize) -> &[u8]
     &text[at..]
 }
 
-/// How much blanks and comments there are in front.
+/// How much blanks and comments there are before it.
 fn blanks_len(text: &[u8]) -> usize
     ensures within { result ≤ length text.now }
     ensures same { (at : ℕ) → lex_from at 0 text.now ≡ lex_from (at + result) 0 (drop result text.now) }
@@ -72,7 +72,7 @@ impl<'a> Lexer<'a> {
         if rest.is_empty() {
             return Ok(None);
         }
-        let (token, len) = front(alloc, rest)?;
+        let (token, len) = prefix(alloc, rest)?;
         let start = self.at + blanks;
         let end = start + len;
         self.at = end;

@@ -1,10 +1,10 @@
 //! The tokens of a text. The definition is `specs/Lex.antt`, to be held against `docs/SQL.md`, Tokens.
 #![tactic(auto)]
 
-mod front;
 mod laws;
 mod lexer;
 mod placed;
+mod prefix;
 mod scan;
 mod words;
 

@@ -25,7 +25,7 @@ pub fn is_in_word(byte: u8) -> bool
     begins_word(byte) || byte.is_ascii_digit()
 }
 
-/// The length of the run of letters, digits and `_` in front.
+/// The length of the run of letters, digits and `_` before it.
 pub fn word_len(text: &[u8]) -> usize
     ensures value { result ≡ prefix_len words.is_in_word text.now }
     ensures within { result ≤ length text.now }
@@ -33,7 +33,7 @@ pub fn word_len(text: &[u8]) -> usize
     text.iter().take_while(|byte| is_in_word(**byte)).count()
 }
 
-/// The length of the run of letters, digits, `_` and `.` in front.
+/// The length of the run of letters, digits, `_` and `.` before it.
 pub fn numeral_len(text: &[u8]) -> usize
     ensures value { result ≡ prefix_len spec.is_in_numeral text.now }
     ensures within { result ≤ length text.now }
@@ -84,7 +84,7 @@ fn is_blank(byte: u8) -> bool
     byte == b' ' || byte == b'\t' || byte == b'\r' || byte == b'\n'
 }
 
-/// How long the blank or the comment in front is, 0 where there is none.
+/// How long the blank or the comment before it is, 0 where there is none.
 #[tactic(auto, unfolding(crate::specs::Lex::blank_len))]
 pub fn blank_len(text: &[u8]) -> usize
     ensures value { result ≡ spec.blank_len text.now }
@@ -143,7 +143,7 @@ fn is_char(text: &[u8], len: usize) -> bool
     }
 }
 
-/// How long the well-formed character in front is, or 1.
+/// How long the well-formed character before it is, or 1.
 #[tactic(auto, unfolding(crate::specs::Lex::char_len))]
 pub fn char_len(text: &[u8]) -> usize
     requires { 0 < length text.now }

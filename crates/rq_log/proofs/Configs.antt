@@ -35,7 +35,7 @@ module _ {E : Type 0} (view : EntryView E) where
   pub index_is : (log : List E) → 0 < configuration_index view log → is_configuration view log (configuration_index view log) ≡ true
   index_is log pos = ⊎_elim (λ (z : configuration_index view log ≡ 0). absurd (omega arith)) (λ (p : (is_configuration view log (configuration_index view log) ≡ true) × (0 < configuration_index view log) × (configuration_index view log ≤ 0 + length log)). p.0) (greatest_is (is_configuration view log) 0 (length log))
 
-  -- the newest one of a log stands in another with the same front, or a newer one does
+  -- the newest one of a log stands in another with the same prefix, or a newer one does
   pub index_within : (a b : List E) (n : ℕ) → configuration_index view a ≤ n → take n a ≡ take n b → configuration_index view a ≤ length b → configuration_index view a ≤ configuration_index view b
   index_within a b n le e fits = ⊎_elim
       (λ (pos : 0 < configuration_index view a). index_max b (configuration_index view a) fits (sym (conf_same a b n (configuration_index view a) le e) ∙ index_is a pos))

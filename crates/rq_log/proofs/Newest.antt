@@ -82,7 +82,7 @@ module _ {E : Type 0} (es : Entries E) where
       → IsLog es new count (count - 1) cut at room
   pushed_config log new e count at cut room is len fits none newest t =
       let size : length new ≡ length log + 1 = omega (arith, ap length is, length-append log (e ∷ [])) in
-      let first = front log new e count cut is len none in
+      let first = prefix log new e count cut is len none in
       record {
         newest = omega (arith, ap (configuration_index (entry_view es)) is, pushed_new (entry_view es) log e t);
         cut_within = omega arith;
@@ -90,15 +90,15 @@ module _ {E : Type 0} (es : Entries E) where
         newest_before = newest ∙ ap (configuration_index (entry_view es)) (sym first);
       }
     where
-      front : (log new : List E) (e : E) (count : ℕ) (cut : List E) → new ≡ log ++ e ∷ [] → count ≡ length new → cut ≡ [] → take (count - 1) new ++ cut ≡ log
-      front log new e count cut is len none = let size : length new ≡ length log + 1 = omega (arith, ap length is, length-append log (e ∷ [])) in let m : count - 1 ≡ length log = omega arith in
+      prefix : (log new : List E) (e : E) (count : ℕ) (cut : List E) → new ≡ log ++ e ∷ [] → count ≡ length new → cut ≡ [] → take (count - 1) new ++ cut ≡ log
+      prefix log new e count cut is len none = let size : length new ≡ length log + 1 = omega (arith, ap length is, length-append log (e ∷ [])) in let m : count - 1 ≡ length log = omega arith in
           rw (m, none, is, append_none (take (length log) (log ++ e ∷ []))) (take-append_seam log (e ∷ []))
 
   pub pushed_plain : (log new : List E) (e : E) (count at : ℕ) (cut : List E) (room : ℕ) → new ≡ log ++ e ∷ [] → count ≡ length new → count ≤ room → cut ≡ [] → at ≡ configuration_index (entry_view es) log → is_given ((entry_view es).voters_of e) ≡ false
       → IsLog es new at (count - 1) cut at room
   pushed_plain log new e count at cut room is len fits none newest t =
       let size : length new ≡ length log + 1 = omega (arith, ap length is, length-append log (e ∷ [])) in
-      let first = front log new e count cut is len none in
+      let first = prefix log new e count cut is len none in
       record {
         newest = omega (arith, ap (configuration_index (entry_view es)) is, pushed_other (entry_view es) log e t);
         cut_within = omega arith;
@@ -106,6 +106,6 @@ module _ {E : Type 0} (es : Entries E) where
         newest_before = newest ∙ ap (configuration_index (entry_view es)) (sym first);
       }
     where
-      front : (log new : List E) (e : E) (count : ℕ) (cut : List E) → new ≡ log ++ e ∷ [] → count ≡ length new → cut ≡ [] → take (count - 1) new ++ cut ≡ log
-      front log new e count cut is len none = let size : length new ≡ length log + 1 = omega (arith, ap length is, length-append log (e ∷ [])) in let m : count - 1 ≡ length log = omega arith in
+      prefix : (log new : List E) (e : E) (count : ℕ) (cut : List E) → new ≡ log ++ e ∷ [] → count ≡ length new → cut ≡ [] → take (count - 1) new ++ cut ≡ log
+      prefix log new e count cut is len none = let size : length new ≡ length log + 1 = omega (arith, ap length is, length-append log (e ∷ [])) in let m : count - 1 ≡ length log = omega arith in
           rw (m, none, is, append_none (take (length log) (log ++ e ∷ []))) (take-append_seam log (e ∷ []))

@@ -103,7 +103,7 @@ fn numeral(stack: Stack, n: u64) -> Option<State>
     }
 }
 
-/// An operand is to come, behind one more front `+`.
+/// An operand is to come, behind one more prefix `+`.
 fn with_plus(stack: Stack) -> Step
     ensures { IfOk result (λ x. x ≡ Some (s.Operand (spec.with_plus stack))) }
 {
@@ -114,7 +114,7 @@ fn with_plus(stack: Stack) -> Step
     }
 }
 
-/// The token directly behind a front `-`.
+/// The token directly behind a prefix `-`.
 pub(crate) fn signed(stack: Stack, token: Token) -> Step
     ensures { IfOk result (λ x. x ≡ spec.signed stack token) }
 {
@@ -124,7 +124,7 @@ pub(crate) fn signed(stack: Stack, token: Token) -> Step
     }
 }
 
-/// An integer behind a front `-`.
+/// An integer behind a prefix `-`.
 fn negative(stack: Stack, n: u64) -> Option<State>
     ensures { result ≡ spec.signed stack (t.Numeral n) }
 {

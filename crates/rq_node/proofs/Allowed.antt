@@ -19,7 +19,7 @@ use Rattle.rq_engine.specs.Command.{execute_bytes}
 use Rattle.rq_node.specs.declared.log_entry.LogEntry.{LogEntry}
 use Rattle.rq_node.specs.declared.log_entry.Content.TheVariants.{NoOp, Execute}
 use Rattle.rq_node.specs.Files.{body_of, stored_entry, stored_of, frame_of}
-use Rattle.rq_node.specs.Node.{Node, Kept, Splice, kept_of}
+use Rattle.rq_node.specs.Node.{Node, Persistent, Splice, persistent_of}
 use Rattle.rq_node.specs.Rules.{led, taken_up}
 use Rattle.rq_node.specs.Sound.{most_bytes}
 use Rattle.rq_node.proofs.Addresses.{both}
@@ -91,7 +91,7 @@ short_splice index entry small =
     )
 
 -- one entry behind the others
-splice_allowed : (id : List ℕ) (kept : Kept) (index : ℕ) (entry : LogEntry) → index ≡ length kept.log + 1 → index < 2 ^ 64 → entry.term < 2 ^ 64 → IsBody text_limit (body_of entry.content) → length (body_bytes (body_of entry.content)) < 2 ^ 31
+splice_allowed : (id : List ℕ) (kept : Persistent) (index : ℕ) (entry : LogEntry) → index ≡ length kept.log + 1 → index < 2 ^ 64 → entry.term < 2 ^ 64 → IsBody text_limit (body_of entry.content) → length (body_bytes (body_of entry.content)) < 2 ^ 31
     → AreAllowed (stored_of id kept) (map frame_of (Splice index (entry ∷ []) ∷ []))
 splice_allowed id kept index entry is fits term body small = (
   (
@@ -101,19 +101,19 @@ splice_allowed id kept index entry is fits term body small = (
   tt,
 )
 
-pub led_allowed : (n : Node) → is_id n.id ≡ true → n.term + 1 < 2 ^ 64 → length n.log + 1 < 2 ^ 64 → AreAllowed (stored_of n.id (kept_of n)) (map frame_of (led n).durable)
+pub led_allowed : (n : Node) → is_id n.id ≡ true → n.term + 1 < 2 ^ 64 → length n.log + 1 < 2 ^ 64 → AreAllowed (stored_of n.id (persistent_of n)) (map frame_of (led n).records)
 led_allowed n is term fits = (
   ((term, named_id n.id is), short_vote (n.term + 1) n.id is),
-  splice_allowed n.id (record (kept_of n) { term = n.term + 1; vote = Some n.id }) (length n.log + 1) (record { term = n.term + 1; content = NoOp }) refl fits term tt (omega arith),
+  splice_allowed n.id (record (persistent_of n) { term = n.term + 1; vote = Some n.id }) (length n.log + 1) (record { term = n.term + 1; content = NoOp }) refl fits term tt (omega arith),
 )
 
 short_command : (command : List ℕ) → length command ≤ most_bytes → length (2 ∷ sized command) < 2 ^ 31
 short_command command short = omega (arith, length-append (u32_bytes (length command)) command, four (length command), short)
 
 pub taken_allowed : (n : Node) (number : ℕ) (items : List Item) → n.term < 2 ^ 64 → length n.log + 1 < 2 ^ 64 → length (execute_bytes items) ≤ most_bytes → AreBytes (execute_bytes items)
-    → AreAllowed (stored_of n.id (kept_of n)) (map frame_of (taken_up n number items).durable)
+    → AreAllowed (stored_of n.id (persistent_of n)) (map frame_of (taken_up n number items).records)
 taken_allowed n number items term fits short bytes =
-    splice_allowed n.id (kept_of n) (length n.log + 1) (record { term = n.term; content = Execute items }) refl fits term (short, omega (arith, short), bytes) (short_command (execute_bytes items) short)
+    splice_allowed n.id (persistent_of n) (length n.log + 1) (record { term = n.term; content = Execute items }) refl fits term (short, omega (arith, short), bytes) (short_command (execute_bytes items) short)
 
 below_63 : (n : ℕ) → n < 2 ^ 63 → is_small n ≡ true
 below_63 n less = grind (arith, nat_tests)

@@ -1,7 +1,7 @@
 mod Addresses
 mod Allowed
 mod FileSteps
-mod Kept
+mod Persistent
 mod NodeSteps
 mod Openings
 mod Readable

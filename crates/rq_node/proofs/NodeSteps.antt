@@ -11,7 +11,7 @@ use Rattle.rq_statement.specs.declared.res.Res.{Res}
 use Rattle.rq_engine.specs.Database.{Database}
 use Rattle.rq_engine.specs.Meaning.{executed}
 use Rattle.rq_node.specs.declared.log_entry.Content.TheVariants.{NoOp, Execute}
-use Rattle.rq_node.specs.Node.{Node, Turn, Durable}
+use Rattle.rq_node.specs.Node.{Node, Turn, StoredRecord}
 use Rattle.rq_node.specs.Rules.{apply_times, apply_next, applied_entry, applied_content, answered, left_waiting}
 
 -- one entry more is applied
@@ -95,11 +95,11 @@ counts_one n within = by (slice_get n.log n.applied) refl
     by (Some entry) is = of_content entry.content
 
 -- nothing is stored where an entry is applied
-stores_nothing : (n : Node) (entry : Option LogEntry) → (applied_entry n entry).durable ≡ []
+stores_nothing : (n : Node) (entry : Option LogEntry) → (applied_entry n entry).records ≡ []
 stores_nothing n None = refl
 stores_nothing n (Some entry) = by entry.content
   where
-    by : (content : Content) → (applied_content n (n.applied + 1) content).durable ≡ []
+    by : (content : Content) → (applied_content n (n.applied + 1) content).records ≡ []
     by NoOp = refl
     by (Execute items) = refl
 
@@ -115,16 +115,16 @@ module _ (n next : Node) (less : n.applied < n.commit) (within : n.commit ≤ le
   falls_by_one = let c = commit_is in let a = applied_is in omega arith
 
   pub times_go_on : (before after : List Answer) (total : Turn) → after ≡ before ++ (applied_entry n (slice_get n.log n.applied)).answers
-      → apply_times (n.commit - n.applied) (record { node = n; durable = []; answers = before }) ≡ total
-      → apply_times (next.commit - next.applied) (record { node = next; durable = []; answers = after }) ≡ total
+      → apply_times (n.commit - n.applied) (record { node = n; records = []; answers = before }) ≡ total
+      → apply_times (next.commit - next.applied) (record { node = next; records = []; answers = after }) ≡ total
   times_go_on before after total answers so_far =
       let turn = applied_entry n (slice_get n.log n.applied) in
       let rest : next.commit - next.applied ≡ n.commit - (n.applied + 1) = ap (λ (c : ℕ). c - next.applied) commit_is ∙ ap (λ (a : ℕ). n.commit - a) applied_is in
-      ap (λ (k : ℕ). apply_times k (record { node = next; durable = []; answers = after })) rest
-      ∙ ap (λ (k : Node). apply_times (n.commit - (n.applied + 1)) (record { node = k; durable = []; answers = after })) is
-      ∙ ap (λ (s : List Durable). apply_times (n.commit - (n.applied + 1)) (record { node = turn.node; durable = s; answers = after })) (sym (stores_nothing n (slice_get n.log n.applied)))
-      ∙ ap (λ (l : List Answer). apply_times (n.commit - (n.applied + 1)) (record { node = turn.node; durable = turn.durable; answers = l })) answers
-      ∙ sym (times_next n.applied n.commit (record { node = n; durable = []; answers = before }) less)
+      ap (λ (k : ℕ). apply_times k (record { node = next; records = []; answers = after })) rest
+      ∙ ap (λ (k : Node). apply_times (n.commit - (n.applied + 1)) (record { node = k; records = []; answers = after })) is
+      ∙ ap (λ (s : List StoredRecord). apply_times (n.commit - (n.applied + 1)) (record { node = turn.node; records = s; answers = after })) (sym (stores_nothing n (slice_get n.log n.applied)))
+      ∙ ap (λ (l : List Answer). apply_times (n.commit - (n.applied + 1)) (record { node = turn.node; records = turn.records; answers = l })) answers
+      ∙ sym (times_next n.applied n.commit (record { node = n; records = []; answers = before }) less)
       ∙ so_far
 
 -- the parts of what a list does

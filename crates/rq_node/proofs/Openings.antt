@@ -11,30 +11,30 @@ use Rattle.rq_wal.specs.Images.{given_has, images_have}
 use Rattle.rq_node.specs.Files.{first_base, stored_of}
 use Rattle.rq_node.specs.declared.error.NodeError.{NodeError}
 use Rattle.rq_node.specs.declared.error.NodeError.TheVariants as errors
-use Rattle.rq_node.specs.Node.{Node, Kept, Durable, Boot, kept_of, kept_with, kept_after}
+use Rattle.rq_node.specs.Node.{Node, Persistent, StoredRecord, Boot, persistent_of, persistent_with, persistent_after}
 use Rattle.rq_node.specs.Opened.{refusal_of, IsRefusal}
 use Rattle.rq_node.specs.Rules.{started}
 use Rattle.rq_node.specs.Sound.{AreReadable}
-use Rattle.rq_node.specs.Standing.{HasFile, IsSomeOf, Stands, CanBeRead, FailedOpening}
-use Rattle.rq_node.proofs.Kept.{base_is}
+use Rattle.rq_node.specs.Recovery.{HasFile, IsSomeOf, Stands, CanBeRead, FailedOpening}
+use Rattle.rq_node.proofs.Persistent.{base_is}
 use Rattle.rq_node.proofs.Readable.{some_readable}
 
-no_refusal : (id : List ℕ) (kept : Kept) (items : List Durable) (e : OpenError) → IsSomeOf id kept items (Err e) → ⊥
+no_refusal : (id : List ℕ) (kept : Persistent) (items : List StoredRecord) (e : OpenError) → IsSomeOf id kept items (Err e) → ⊥
 no_refusal id kept items e some = let is = some.1 in absurd (cc)
 
-stored_is : (id : List ℕ) (kept : Kept) (items : List Durable) (stored : Stored) (some : IsSomeOf id kept items (Ok stored)) → stored ≡ stored_of id (kept_after kept (take some.0 items))
+stored_is : (id : List ℕ) (kept : Persistent) (items : List StoredRecord) (stored : Stored) (some : IsSomeOf id kept items (Ok stored)) → stored ≡ stored_of id (persistent_after kept (take some.0 items))
 stored_is id kept items stored some = let is = some.1 in cc
 
 -- which of them stand, by what was read
-pub record Taken (id : List ℕ) (kept : Kept) (items : List Durable) (stored : Stored) : Type 0 where
+pub record Taken (id : List ℕ) (kept : Persistent) (items : List StoredRecord) (stored : Stored) : Type 0 where
   pub k : ℕ
-  pub readable : AreReadable (kept_after kept (take k items)).log
-  pub is : stored ≡ stored_of id (kept_after kept (take k items))
+  pub readable : AreReadable (persistent_after kept (take k items)).log
+  pub is : stored ≡ stored_of id (persistent_after kept (take k items))
 
-pub taken : (id : List ℕ) (kept : Kept) (items : List Durable) (stored : Stored) → CanBeRead kept items → IsSomeOf id kept items (Ok stored) → Taken id kept items stored
+pub taken : (id : List ℕ) (kept : Persistent) (items : List StoredRecord) (stored : Stored) → CanBeRead kept items → IsSomeOf id kept items (Ok stored) → Taken id kept items stored
 taken id kept items stored can some = record { k = some.0; readable = some_readable kept items some.0 can; is = stored_is id kept items stored some }
 
-module _ {D F : Type 0} (told : Bool) (means : D → DiskMeaning) (id : List ℕ) (kept : Kept) (items : List Durable) where
+module _ {D F : Type 0} (told : Bool) (means : D → DiskMeaning) (id : List ℕ) (kept : Persistent) (items : List StoredRecord) where
   -- what an opened pair stands for
   pub stands_still : (old new : DiskPair D F) → Stands told means old id kept items
       → (IsTrue told → EachImage means (first_base id) new (SomeImageGives means (first_base id) old)) → Stands told means new id kept items
@@ -49,19 +49,19 @@ module _ {D F : Type 0} (told : Bool) (means : D → DiskMeaning) (id : List ℕ
   not_refused old e tells stands (inr (inr given)) = absurd (no_refusal id kept items e (opened_some old (Err e) tells stands given))
 
   -- where the first of these things stand and no more, some of them stand
-  pub some_given : (new : DiskPair D F) (k : ℕ) → (IsTrue told → EachImageGives means (first_base id) new (stored_of id (kept_after kept (take k items)))) → Stands told means new id kept items
+  pub some_given : (new : DiskPair D F) (k : ℕ) → (IsTrue told → EachImageGives means (first_base id) new (stored_of id (persistent_after kept (take k items)))) → Stands told means new id kept items
   some_given new k gives = λ tells one two i1 i2. (k, gives tells one two i1 i2)
 
   -- what a boot that failed leaves
   pub failed_boot : (new : DiskPair D F) (stored : Stored) → CanBeRead kept items → (IsTrue told → IsSomeOf id kept items (Ok stored))
-      → ((now : Kept) → AreReadable now.log → stored ≡ stored_of id now → Stands told means new id now (Boot (now.boot + 1) ∷ []))
+      → ((now : Persistent) → AreReadable now.log → stored ≡ stored_of id now → Stands told means new id now (Boot (now.boot + 1) ∷ []))
       → FailedOpening told means new id kept items
   failed_boot new stored can some stands = by_told told refl
     where
       by_told : (b : Bool) → told ≡ b → FailedOpening told means new id kept items
       by_told true is =
           let has = taken id kept items stored can (some is) in
-          inr (has.k, stands (kept_after kept (take has.k items)) has.readable has.is)
+          inr (has.k, stands (persistent_after kept (take has.k items)) has.readable has.is)
       by_told false is = inl (λ tells. absurd (cc))
 
 -- the base of what stands in a current file
@@ -70,14 +70,14 @@ current_base means pair id wal stored current = base_is (first_base id) current.
 
 -- the state that is started over what stands in the file
 module _ {D F : Type 0} (told : Bool) (means : D → DiskMeaning) (pair : DiskPair D F) (id : List ℕ) (wal : WalFile) (stored : Stored) (current : IsTrue told → IsCurrent means (first_base id) pair wal stored)
-    (state : Node) (kept : Kept) (same : state ≡ (started id kept).node) (is : IsTrue told → stored ≡ stored_of id kept) where
+    (state : Node) (kept : Persistent) (same : state ≡ (started id kept).node) (is : IsTrue told → stored ≡ stored_of id kept) where
   pub started_file : HasFile told means pair state.id kept (Some wal)
   started_file = λ tells.
       subst (λ (n : Node). IsCurrent means (first_base n.id) pair wal (stored_of n.id kept)) (sym same)
       (subst (λ (s : Stored). IsCurrent means (first_base id) pair wal s) (is tells) (current tells))
 
-pub booted : (id : List ℕ) (kept : Kept) (state : Node) → state ≡ (started id kept).node → kept_with kept (Boot state.boot) ≡ kept_of state
-booted id kept state same = ap (λ (n : Node). kept_with kept (Boot n.boot)) same ∙ sym (ap (λ (n : Node). kept_of n) same)
+pub booted : (id : List ℕ) (kept : Persistent) (state : Node) → state ≡ (started id kept).node → persistent_with kept (Boot state.boot) ≡ persistent_of state
+booted id kept state same = ap (λ (n : Node). persistent_with kept (Boot n.boot)) same ∙ sym (ap (λ (n : Node). persistent_of n) same)
 
 pub ok_more : {T E : Type 0} (r : Result T E) (P Q : T → Type 0) → ((x : T) → P x → Q x) → IfOk r P → IfOk r Q
 ok_more (Ok x) P Q more has = more x has

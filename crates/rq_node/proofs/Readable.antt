@@ -18,9 +18,9 @@ use Rattle.rq_engine.specs.Command.{execute_bytes}
 use Rattle.rq_command.specs.Stored.{text_of, IsItem, IsCommand}
 use Rattle.rq_node.specs.declared.log_entry.LogEntry.{LogEntry}
 use Rattle.rq_node.specs.declared.log_entry.Content.TheVariants.{Execute}
-use Rattle.rq_node.specs.Node.{Kept, Durable, Vote, Splice, Boot, kept_with, kept_after}
-use Rattle.rq_node.specs.Sound.{IsReadable, IsKeptReadable, AreReadable, most_bytes}
-use Rattle.rq_node.specs.Standing.{IsItemReadable, CanBeRead}
+use Rattle.rq_node.specs.Node.{Persistent, StoredRecord, Vote, Splice, Boot, persistent_with, persistent_after}
+use Rattle.rq_node.specs.Sound.{IsReadable, IsPersistentReadable, AreReadable, most_bytes}
+use Rattle.rq_node.specs.Recovery.{IsItemReadable, CanBeRead}
 
 -- ---- each of a list
 
@@ -43,23 +43,23 @@ all_one P x here = all_with P x [] here (all_none P)
 -- ---- logs
 
 abbrev pub IsEntryReadable : LogEntry → Type 0
-IsEntryReadable entry = IsKeptReadable entry.content
+IsEntryReadable entry = IsPersistentReadable entry.content
 
-pub readable_more : (log : List LogEntry) (entry : LogEntry) → AreReadable log → IsKeptReadable entry.content → AreReadable (log ++ entry ∷ [])
+pub readable_more : (log : List LogEntry) (entry : LogEntry) → AreReadable log → IsPersistentReadable entry.content → AreReadable (log ++ entry ∷ [])
 readable_more log entry all one = All-append IsEntryReadable log (entry ∷ []) all (all_one IsEntryReadable entry one)
 
-readable_with : (kept : Kept) (item : Durable) → AreReadable kept.log → IsItemReadable item → AreReadable (kept_with kept item).log
+readable_with : (kept : Persistent) (item : StoredRecord) → AreReadable kept.log → IsItemReadable item → AreReadable (persistent_with kept item).log
 readable_with kept (Vote term vote) all item = all
 readable_with kept (Splice from entries) all item = All-append IsEntryReadable (take (from - 1) kept.log) entries (All-take IsEntryReadable (from - 1) kept.log all) item
 readable_with kept (Boot boot) all item = all
 
-readable_after : (kept : Kept) (items : List Durable) → AreReadable kept.log → All IsItemReadable items → AreReadable (kept_after kept items).log
+readable_after : (kept : Persistent) (items : List StoredRecord) → AreReadable kept.log → All IsItemReadable items → AreReadable (persistent_after kept items).log
 readable_after kept [] all items = all
 readable_after kept (item ∷ more) all items =
-    readable_after (kept_with kept item) more (readable_with kept item all (all_first IsItemReadable item more items)) (all_more IsItemReadable item more items)
+    readable_after (persistent_with kept item) more (readable_with kept item all (all_first IsItemReadable item more items)) (all_more IsItemReadable item more items)
 
 -- whatever of it stands can be read
-pub some_readable : (kept : Kept) (items : List Durable) (k : ℕ) → CanBeRead kept items → AreReadable (kept_after kept (take k items)).log
+pub some_readable : (kept : Persistent) (items : List StoredRecord) (k : ℕ) → CanBeRead kept items → AreReadable (persistent_after kept (take k items)).log
 some_readable kept items k can = readable_after kept (take k items) can.0 (All-take IsItemReadable k items can.1)
 
 -- ---- items and commands
@@ -84,7 +84,7 @@ fit limit (item ∷ items) all short =
       proper = (record { short = omega arith; text = reads.0; stored = reads.1 }, rest.proper);
     }
 
-pub command_is : (items : List Item) → IsKeptReadable (Execute items) → IsCommand 8388608 items
+pub command_is : (items : List Item) → IsPersistentReadable (Execute items) → IsCommand 8388608 items
 command_is items readable =
     let size = length-append (u32_bytes (length items)) (flat_map item_bytes items) in
     let has = fit 8388608 items readable.0 (omega (arith, readable.1)) in
@@ -94,7 +94,7 @@ items_readable : (limit : ℕ) (items : List Item) → AreProper (IsItem limit) 
 items_readable limit [] proper = all_none IsReadable
 items_readable limit (item ∷ items) proper = all_with IsReadable item items (proper.0.text, proper.0.stored) (items_readable limit items proper.1)
 
-pub readable_is : (bytes : List ℕ) (items : List Item) → bytes ≡ execute_bytes items → length bytes ≤ most_bytes → IsCommand 8388608 items → IsKeptReadable (Execute items)
+pub readable_is : (bytes : List ℕ) (items : List Item) → bytes ≡ execute_bytes items → length bytes ≤ most_bytes → IsCommand 8388608 items → IsPersistentReadable (Execute items)
 readable_is bytes items is short command = (items_readable 8388608 items command.items_are, subst (λ (l : List ℕ). length l ≤ most_bytes) is short)
 
 -- ---- entries as the file has them
@@ -104,7 +104,7 @@ pub record Next (log : List LogEntry) (place : ℕ) : Type 0 where
   pub entry : LogEntry
   pub more : take (place + 1) log ≡ take place log ++ entry ∷ []
   pub stored : (found : Entry) → found ≡ get_or (map stored_entry log) place found → found ≡ stored_entry entry
-  pub readable : AreReadable log → IsKeptReadable entry.content
+  pub readable : AreReadable log → IsPersistentReadable entry.content
 
 pub next : (log : List LogEntry) (place : ℕ) → place < length log → Next log place
 next [] place less = absurd (omega arith)
@@ -134,8 +134,8 @@ spelled_more entries place found log entry less is spelled before =
     ∙ sym (map-append stored_entry log (entry ∷ []))
 
 -- so far the log is the one that the entries spell
-abbrev pub IsFront : List Entry → ℕ → List LogEntry → Type 0
-IsFront entries place found = (log : List LogEntry) → AreReadable log → entries ≡ map stored_entry log → found ≡ take place log
+abbrev pub IsPrefixOf : List Entry → ℕ → List LogEntry → Type 0
+IsPrefixOf entries place found = (log : List LogEntry) → AreReadable log → entries ≡ map stored_entry log → found ≡ take place log
 
 pub place_in : (entries : List Entry) (log : List LogEntry) (place : ℕ) → entries ≡ map stored_entry log → place < length entries → Next log place
 place_in entries log place is less = next log place (omega (arith, ap length is, length-map log stored_entry))
@@ -143,20 +143,20 @@ place_in entries log place is less = next log place (omega (arith, ap length is,
 pub stored_at : (entries : List Entry) (log : List LogEntry) (place : ℕ) (is : entries ≡ map stored_entry log) (less : place < length entries) (found : Entry) → found ≡ get_or entries place found → found ≡ stored_entry (place_in entries log place is less).entry
 stored_at entries log place is less found at = (place_in entries log place is less).stored found (at ∙ ap (λ (l : List Entry). get_or l place found) is)
 
-pub front_more : (entries : List Entry) (place : ℕ) (before : List LogEntry) (found : Entry) (entry : LogEntry) → place < length entries → found ≡ get_or entries place found
-    → ((kept : LogEntry) → IsKeptReadable kept.content → found ≡ stored_entry kept → entry ≡ kept) → IsFront entries place before → IsFront entries (place + 1) (before ++ entry ∷ [])
-front_more entries place before found entry less at one front = λ log all is.
+pub prefix_more : (entries : List Entry) (place : ℕ) (before : List LogEntry) (found : Entry) (entry : LogEntry) → place < length entries → found ≡ get_or entries place found
+    → ((kept : LogEntry) → IsPersistentReadable kept.content → found ≡ stored_entry kept → entry ≡ kept) → IsPrefixOf entries place before → IsPrefixOf entries (place + 1) (before ++ entry ∷ [])
+prefix_more entries place before found entry less at one prefix = λ log all is.
     let n = place_in entries log place is less in
     let e : entry ≡ n.entry = one n.entry (n.readable all) (n.stored found (at ∙ ap (λ (l : List Entry). get_or l place found) is)) in
-    (λ i. front log all is i ++ e i ∷ []) ∙ sym n.more
+    (λ i. prefix log all is i ++ e i ∷ []) ∙ sym n.more
 
-pub front_none : (entries : List Entry) → IsFront entries 0 []
-front_none entries = λ log all is. refl
+pub prefix_none : (entries : List Entry) → IsPrefixOf entries 0 []
+prefix_none entries = λ log all is. refl
 
-pub whole_front : (entries : List Entry) (place : ℕ) (found log : List LogEntry) → place ≡ length entries → IsFront entries place found → AreReadable log → entries ≡ map stored_entry log → found ≡ log
-whole_front entries place found log at front all is =
+pub whole_prefix : (entries : List Entry) (place : ℕ) (found log : List LogEntry) → place ≡ length entries → IsPrefixOf entries place found → AreReadable log → entries ≡ map stored_entry log → found ≡ log
+whole_prefix entries place found log at prefix all is =
     let size : length log ≤ place = omega (arith, ap length is, length-map log stored_entry) in
-    front log all is ∙ take_all place log size
+    prefix log all is ∙ take_all place log size
 
 pub whole_spelled : (entries : List Entry) (place : ℕ) (found : List LogEntry) → place ≡ length entries → take place entries ≡ map stored_entry found → entries ≡ map stored_entry found
 whole_spelled entries place found at spelled = sym (take_all place entries (omega arith)) ∙ spelled

@@ -13,7 +13,7 @@ use Rattle.rq_engine.specs.Command.{execute_bytes}
 use Rattle.rq_node.specs.declared.log_entry.LogEntry.{LogEntry}
 use Rattle.rq_node.specs.declared.log_entry.Content.{Content}
 use Rattle.rq_node.specs.declared.log_entry.Content.TheVariants.{NoOp, Execute}
-use Rattle.rq_node.specs.Node.{Kept, Durable, Vote, Splice, Boot}
+use Rattle.rq_node.specs.Node.{Persistent, StoredRecord, Vote, Splice, Boot}
 
 -- the node is the one voter, at two ports of its name
 abbrev pub first_config : List ℕ → List Member
@@ -28,8 +28,8 @@ abbrev pub first_base : List ℕ → Base
 first_base id = record { term = 0; vote = None; boot = 0; index = 0; last_term = 0; config = first_config id; state = first_image id }
 
 -- what a new node keeps, which never booted
-abbrev pub first_kept : Kept
-first_kept = record { term = 0; vote = None; boot = 0; log = [] }
+abbrev pub first_persistent : Persistent
+first_persistent = record { term = 0; vote = None; boot = 0; log = [] }
 
 -- what an entry is in the log file
 abbrev pub body_of : Content → Body
@@ -40,11 +40,11 @@ abbrev pub stored_entry : LogEntry → Entry
 stored_entry entry = record { term = entry.term; body = body_of entry.content }
 
 -- what a file stands for that has what a node keeps
-abbrev pub stored_of : List ℕ → Kept → Stored
+abbrev pub stored_of : List ℕ → Persistent → Stored
 stored_of id kept = record { base = first_base id; term = kept.term; vote = kept.vote; boot = kept.boot; entries = map stored_entry kept.log }
 
 -- the frame that makes a thing durable
-abbrev pub frame_of : Durable → Frame
+abbrev pub frame_of : StoredRecord → Frame
 frame_of (Vote term vote) = frame.Vote term vote
 frame_of (Splice from entries) = frame.Splice from (map stored_entry entries)
 frame_of (Boot boot) = frame.Boot boot

@@ -3,4 +3,4 @@ pub mod Node
 pub mod Opened
 pub mod Rules
 pub mod Sound
-pub mod Standing
+pub mod Recovery

@@ -21,42 +21,42 @@ pub record Node : Type 0 where
   pub database : Database  -- the replica: what the applied entries made of an empty database
 
 -- what of a node outlives a stop
-pub record Kept : Type 0 where
+pub record Persistent : Type 0 where
   pub term : ℕ
   pub vote : Option (List ℕ)
   pub boot : ℕ
   pub log : List LogEntry
 
-abbrev pub kept_of : Node → Kept
-kept_of n = record { term = n.term; vote = n.vote; boot = n.boot; log = n.log }
+abbrev pub persistent_of : Node → Persistent
+persistent_of n = record { term = n.term; vote = n.vote; boot = n.boot; log = n.log }
 
 -- what a rule makes durable
-pub data Durable : Type 0 where
-  Vote : (term : ℕ) (vote : Option (List ℕ)) → Durable
-  Splice : (from : ℕ) (entries : List LogEntry) → Durable  -- the log from this index on is these entries
-  Boot : (boot : ℕ) → Durable
+pub data StoredRecord : Type 0 where
+  Vote : (term : ℕ) (vote : Option (List ℕ)) → StoredRecord
+  Splice : (from : ℕ) (entries : List LogEntry) → StoredRecord  -- the log from this index on is these entries
+  Boot : (boot : ℕ) → StoredRecord
 
 -- what is kept with one thing more
-abbrev pub kept_with : Kept → Durable → Kept
-kept_with kept (Vote term vote) = record kept { term = term; vote = vote }
-kept_with kept (Splice from entries) = record kept { log = take (from - 1) kept.log ++ entries }
-kept_with kept (Boot boot) = record kept { boot = boot }
+abbrev pub persistent_with : Persistent → StoredRecord → Persistent
+persistent_with kept (Vote term vote) = record kept { term = term; vote = vote }
+persistent_with kept (Splice from entries) = record kept { log = take (from - 1) kept.log ++ entries }
+persistent_with kept (Boot boot) = record kept { boot = boot }
 
 -- and with several, in order
-abbrev pub kept_after : Kept → List Durable → Kept
-kept_after kept [] = kept
-kept_after kept (item ∷ items) = kept_after (kept_with kept item) items
+abbrev pub persistent_after : Persistent → List StoredRecord → Persistent
+persistent_after kept [] = kept
+persistent_after kept (item ∷ items) = persistent_after (persistent_with kept item) items
 
 -- the node after a rule, what the rule makes durable, in order, and its answers, in order
 pub record Turn : Type 0 where
   pub node : Node
-  pub durable : List Durable
+  pub records : List StoredRecord
   pub answers : List Answer
 
 -- nothing but the node changes
-abbrev pub quiet : Node → Turn
-quiet n = record { node = n; durable = []; answers = [] }
+abbrev pub unchanged : Node → Turn
+unchanged n = record { node = n; records = []; answers = [] }
 
 -- the node only answers
 abbrev pub says : Node → ℕ → Say → Turn
-says n number say = record { node = n; durable = []; answers = record { number = number; say = say } ∷ [] }
+says n number say = record { node = n; records = []; answers = record { number = number; say = say } ∷ [] }

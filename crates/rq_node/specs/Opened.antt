@@ -13,7 +13,7 @@ use Rattle.rq_node.specs.declared.error.NodeError.{NodeError}
 use Rattle.rq_node.specs.declared.error.NodeError.TheVariants as errors
 use Rattle.rq_node.specs.declared.log_entry.LogEntry.{LogEntry}
 use Rattle.rq_node.specs.Files.{stored_entry, stored_of}
-use Rattle.rq_node.specs.Node.{Node, Kept}
+use Rattle.rq_node.specs.Node.{Node, Persistent}
 use Rattle.rq_node.specs.Rules.{started}
 use Rattle.rq_node.specs.Sound.{AreReadable, most_bytes}
 
@@ -55,7 +55,7 @@ IsRefusal (Err error) e = e ≡ refusal_of error
 
 -- what a pair was read as starts this node
 pub record IsStart (id : List ℕ) (reading : Result Stored OpenError) (node : Node) : Type 0 where
-  pub kept : Kept
+  pub kept : Persistent
   pub is : reading ≡ Ok (stored_of id kept)
   pub readable : AreReadable kept.log
   pub boots : kept.boot < most_boots

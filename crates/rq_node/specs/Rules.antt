@@ -13,7 +13,7 @@ use Rattle.rq_request.specs.declared.say.Answer.{Answer}
 use Rattle.rq_engine.specs.Meaning.{executed, answers}
 use Rattle.rq_engine.specs.Command.{execute_bytes}
 use Rattle.rq_node.specs.Sound.{most_bytes}
-use Rattle.rq_node.specs.Node.{Node, Kept, Turn, Durable, Vote, Splice, Boot, quiet, says}
+use Rattle.rq_node.specs.Node.{Node, Persistent, Turn, StoredRecord, Vote, Splice, Boot, unchanged, says}
 
 abbrev pub is_leader : Role → Bool
 is_leader Leader = true
@@ -28,7 +28,7 @@ entry_in n content = record { term = n.term; content = content }
 abbrev pub appended : Node → Content → Node
 appended n content = record n { log = n.log ++ entry_in n content ∷ []; commit = length n.log + 1 }
 
-abbrev pub splice_of : Node → Content → Durable
+abbrev pub splice_of : Node → Content → StoredRecord
 splice_of n content = Splice (length n.log + 1) (entry_in n content ∷ [])
 
 -- Elect: nothing at a leader, or in the last term that there is; else the node goes to the next term, votes for itself, and leads
@@ -36,17 +36,17 @@ abbrev pub risen : Node → Node
 risen n = record n { term = n.term + 1; vote = Some n.id; role = Leader }
 
 abbrev pub led : Node → Turn
-led n = record { node = appended (risen n) NoOp; durable = Vote (n.term + 1) (Some n.id) ∷ splice_of (risen n) NoOp ∷ []; answers = [] }
+led n = record { node = appended (risen n) NoOp; records = Vote (n.term + 1) (Some n.id) ∷ splice_of (risen n) NoOp ∷ []; answers = [] }
 
 abbrev pub elect : Node → Turn
-elect n = if is_leader n.role || (n.term == 2 ^ 64 - 1) then quiet n else led n
+elect n = if is_leader n.role || (n.term == 2 ^ 64 - 1) then unchanged n else led n
 
 -- Execute: refused where the node doesn't lead, and where the command is too large; else appended, and answered when it is applied
 abbrev pub waits : Node → ℕ → Node
 waits n number = record n { waiting = n.waiting ++ record { index = length n.log + 1; number = number } ∷ [] }
 
 abbrev pub taken_up : Node → ℕ → List Item → Turn
-taken_up n number items = record { node = appended (waits n number) (Execute items); durable = splice_of n (Execute items) ∷ []; answers = [] }
+taken_up n number items = record { node = appended (waits n number) (Execute items); records = splice_of n (Execute items) ∷ []; answers = [] }
 
 abbrev pub execute_sized : Node → ℕ → List Item → ℕ → Turn
 execute_sized n number items size = if nat_lt most_bytes size then says n number (EntryTooLarge size) else taken_up n number items
@@ -69,22 +69,22 @@ left_waiting index (w ∷ ws) = if w.index == index then ws else w ∷ ws
 
 -- Apply: the entry is applied, and the ask that waits for it is answered with its outcome
 abbrev pub applied_content : Node → ℕ → Content → Turn
-applied_content n index NoOp = quiet (record n { applied = index })
+applied_content n index NoOp = unchanged (record n { applied = index })
 applied_content n index (Execute items) = record {
   node = record n { applied = index; database = (executed n.database items).0; waiting = left_waiting index n.waiting };
-  durable = [];
+  records = [];
   answers = answered index ((executed n.database items).1) n.waiting;
 }
 
 abbrev pub applied_entry : Node → Option LogEntry → Turn
-applied_entry n None = quiet n
+applied_entry n None = unchanged n
 applied_entry n (Some entry) = applied_content n (n.applied + 1) entry.content
 
 -- the next entry, behind what was done before
 abbrev pub apply_next : Turn → Turn
 apply_next turn =
     let next = applied_entry turn.node (slice_get turn.node.log turn.node.applied) in
-    record { node = next.node; durable = turn.durable ++ next.durable; answers = turn.answers ++ next.answers }
+    record { node = next.node; records = turn.records ++ next.records; answers = turn.answers ++ next.answers }
 
 unfoldable pub apply_times : ℕ → Turn → Turn
 apply_times zero turn = turn
@@ -92,10 +92,10 @@ apply_times (suc n) turn = apply_times n (apply_next turn)
 
 -- Apply, until all that is committed is applied
 abbrev pub apply : Node → Turn
-apply n = apply_times (n.commit - n.applied) (quiet n)
+apply n = apply_times (n.commit - n.applied) (unchanged n)
 
 -- Start: the node boots once more, with what it keeps; what was committed it doesn't know yet
-abbrev pub started : List ℕ → Kept → Turn
+abbrev pub started : List ℕ → Persistent → Turn
 started id kept = record {
   node = record {
     id = id;
@@ -109,6 +109,6 @@ started id kept = record {
     waiting = [];
     database = [];
   };
-  durable = Boot (kept.boot + 1) ∷ [];
+  records = Boot (kept.boot + 1) ∷ [];
   answers = [];
 }

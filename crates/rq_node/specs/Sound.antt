@@ -17,12 +17,12 @@ abbrev pub IsReadable : Item → Type 0
 IsReadable item = (is_text (text_of item) ≡ true) × IsStored item
 
 -- what the entry holds is read from the log again
-abbrev pub IsKeptReadable : Content → Type 0
-IsKeptReadable NoOp = ⊤
-IsKeptReadable (Execute items) = All IsReadable items × (length (execute_bytes items) ≤ most_bytes)
+abbrev pub IsPersistentReadable : Content → Type 0
+IsPersistentReadable NoOp = ⊤
+IsPersistentReadable (Execute items) = All IsReadable items × (length (execute_bytes items) ≤ most_bytes)
 
 abbrev pub AreReadable : List LogEntry → Type 0
-AreReadable log = All (λ (entry : LogEntry). IsKeptReadable entry.content) log
+AreReadable log = All (λ (entry : LogEntry). IsPersistentReadable entry.content) log
 
 -- what is applied is committed, and what is committed is in the log
 pub record IsSound (log : List LogEntry) (commit applied : ℕ) : Type 0 where

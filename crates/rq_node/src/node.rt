@@ -8,8 +8,8 @@ ghost use Rattle.rq_wal.specs.Later.{Later, DeviceRose};
 ghost use Rattle.rq_node.specs.declared.turn_error.TurnError.TheVariants.{Disk as DiskFailed, NoMemory as OutOfMemory};
 ghost use Rattle.rq_wal.specs.Rules.{AreAllowed};
 ghost use Rattle.rq_node.specs.Files.{frame_of, stored_of};
-ghost use Rattle.rq_node.specs.Node.{Kept, Durable, kept_after};
-ghost use Rattle.rq_node.specs.Standing.{HasFile, IsBroken, Moments};
+ghost use Rattle.rq_node.specs.Node.{Persistent, StoredRecord, persistent_after};
+ghost use Rattle.rq_node.specs.Recovery.{HasFile, IsBroken, Moments};
 
 use crate::log_entry::LogEntry;
 use crate::role::Role;
@@ -155,14 +155,14 @@ fn store<D: Disk>(
     frames: &[Frame],
 ) -> Result<(), TurnError>
     requires some { is_some file.old ≡ true }
-    requires open { (id : List ℕ) × (kept : Kept) × HasFile D.told D.means disks.old id kept file.old }
-    ensures ok { OnOk result ((id : List ℕ) (kept : Kept) (items : List Durable) → frames.now ≡ map frame_of items → AreAllowed (stored_of id kept) (map frame_of items) → HasFile D.told D.means disks.old id kept file.old → HasFile D.told D.means disks.new id (kept_after kept items) file.new) }
+    requires open { (id : List ℕ) × (kept : Persistent) × HasFile D.told D.means disks.old id kept file.old }
+    ensures ok { OnOk result ((id : List ℕ) (kept : Persistent) (items : List StoredRecord) → frames.now ≡ map frame_of items → AreAllowed (stored_of id kept) (map frame_of items) → HasFile D.told D.means disks.old id kept file.old → HasFile D.told D.means disks.new id (persistent_after kept items) file.new) }
     ensures calls { OnOk result (UsedCalls (4 * length frames.now) (arm_of disks.old) (arm_of disks.new)) }
-    ensures failed { IsErrOf result DiskFailed → (id : List ℕ) (kept : Kept) (first : Durable) (more : List Durable) → frames.now ≡ map frame_of (first ∷ more) → AreAllowed (stored_of id kept) (map frame_of (first ∷ more)) → HasFile D.told D.means disks.old id kept file.old → IsBroken D.told D.means disks.old disks.new id kept (first ∷ more) }
-    ensures no_memory { IsErrOf result OutOfMemory → (id : List ℕ) (kept : Kept) → HasFile D.told D.means disks.old id kept file.old → HasFile D.told D.means disks.new id kept file.new }
+    ensures failed { IsErrOf result DiskFailed → (id : List ℕ) (kept : Persistent) (first : StoredRecord) (more : List StoredRecord) → frames.now ≡ map frame_of (first ∷ more) → AreAllowed (stored_of id kept) (map frame_of (first ∷ more)) → HasFile D.told D.means disks.old id kept file.old → IsBroken D.told D.means disks.old disks.new id kept (first ∷ more) }
+    ensures no_memory { IsErrOf result OutOfMemory → (id : List ℕ) (kept : Persistent) → HasFile D.told D.means disks.old id kept file.old → HasFile D.told D.means disks.new id kept file.new }
     ensures no_memory_arm { IsErrOf result OutOfMemory → arm_of disks.new ≡ arm_of disks.old }
     ensures cause { IsErrOf result DiskFailed → DeviceRose D.means disks.old disks.new ⊎ (arm_of disks.new ≡ Struck) }
-    ensures moments { (id : List ℕ) (kept : Kept) (items : List Durable) → frames.now ≡ map frame_of items → AreAllowed (stored_of id kept) (map frame_of items) → HasFile D.told D.means disks.old id kept file.old → Moments D.told D.means disks.old disks.new id kept items }
+    ensures moments { (id : List ℕ) (kept : Persistent) (items : List StoredRecord) → frames.now ≡ map frame_of items → AreAllowed (stored_of id kept) (map frame_of items) → HasFile D.told D.means disks.old id kept file.old → Moments D.told D.means disks.old disks.new id kept items }
     ensures rose { IsErrOf result DiskFailed → PairRose D.means disks.old disks.new }
     ensures most { PassesMost (4 * length frames.now) (arm_of disks.old) (arm_of disks.new) }
     ensures later { Later D.means disks.old disks.new }

@@ -13,8 +13,8 @@ module _ (old piece : List ℕ) (at i : ℕ) (place : at ≤ length old) (lt : i
   abbrev byte : ℕ
   byte = get_or piece i 0
 
-  front : List ℕ
-  front = take at old ++ take i piece
+  prefix : List ℕ
+  prefix = take at old ++ take i piece
 
   far : length (take i piece) ≡ i
   far = length-take-le i piece (omega arith)

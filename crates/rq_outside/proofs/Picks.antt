@@ -152,7 +152,7 @@ none_made (Sync ∷ calls) w c = none_made calls w c
 pub unmade : (calls : List Call) (w c : List ℕ) → has_no_sync calls ≡ true → left_after calls w c c
 unmade [] w c free = refl
 unmade (Write at n ∷ calls) w c free = torn_cons (Write at n) calls w c c free (record { before = refl; after = refl; no_shorter = omega arith; no_longer = omega arith }) c (unmade calls _ c free)
-unmade (Cut to ∷ calls) w c free = torn_cons (Cut to) calls w c c free (record { no_shorter = omega arith; front = take_all (length c) c (omega arith) }) c (unmade calls w c free)
+unmade (Cut to ∷ calls) w c free = torn_cons (Cut to) calls w c c free (record { no_shorter = omega arith; prefix = take_all (length c) c (omega arith) }) c (unmade calls w c free)
 unmade (Sync ∷ calls) w c free = absurd (cc)
 
 -- one byte more of the padding

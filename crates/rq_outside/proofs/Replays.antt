@@ -172,8 +172,8 @@ module _ (calls : List Call) (w first : List ℕ) (k : ℕ) (total : total_of ca
   halves : take k calls ++ drop k calls ≡ calls
   halves = take-append-drop k calls
 
-  pub front_valid : is_valid (take k calls) w first ≡ true
-  front_valid =
+  pub prefix_valid : is_valid (take k calls) w first ≡ true
+  prefix_valid =
       (and_true (is_valid (take k calls) w first) (is_valid (drop k calls) (drop (total_of (take k calls)) w) (content_after (take k calls) w first))
       (sym (last_valid (take k calls) (drop k calls) w first) ∙ ap (λ (cs : List Call). is_valid cs w first) halves ∙ valid)).0
 
@@ -182,13 +182,13 @@ module _ (calls : List Call) (w first : List ℕ) (k : ℕ) (total : total_of ca
       (and_true (is_valid (take k calls) w first) (is_valid (drop k calls) (drop (total_of (take k calls)) w) (content_after (take k calls) w first))
       (sym (last_valid (take k calls) (drop k calls) w first) ∙ ap (λ (cs : List Call). is_valid cs w first) halves ∙ valid)).1
 
-  pub front_total : total_of (take k calls) + total_of (drop k calls) ≡ total_of calls
-  front_total = sym (total-append (take k calls) (drop k calls)) ∙ ap total_of halves
+  pub prefix_total : total_of (take k calls) + total_of (drop k calls) ≡ total_of calls
+  prefix_total = sym (total-append (take k calls) (drop k calls)) ∙ ap total_of halves
 
   pub all_left : (start f : List ℕ) → start ≡ content_after (take k calls) w first → has_no_sync (drop k calls) ≡ true → left_after (drop k calls) (drop (total_of (take k calls)) w) start f → left_after calls w first f
   all_left start f is free left =
       let I : List ℕ → Type 0 = left_after (take k calls) w first in
-      let reads : I (content_after (take k calls) w first) = reads_image (take k calls) w first (λ c. c ≡ first) (omega (arith, total-take k calls, total)) front_valid refl in
+      let reads : I (content_after (take k calls) w first) = reads_image (take k calls) w first (λ c. c ≡ first) (omega (arith, total-take k calls, total)) prefix_valid refl in
       let later : images_after (drop k calls) (drop (total_of (take k calls)) w) (content_after (take k calls) w first) I f =
       eased (drop k calls) (drop (total_of (take k calls)) w) start (content_after (take k calls) w first) (λ x. x ≡ start) I free (λ x same. subst I (sym (same ∙ is)) reads) f left in
       subst (λ (P : List ℕ → Type 0). P f) (sym (last_images (take k calls) (drop k calls) w first (λ c. c ≡ first)) ∙ ap (λ (cs : List Call). left_after cs w first) halves) later

@@ -27,7 +27,7 @@ pub record Torn (at n : ℕ) (old new : List ℕ) : Type 0 where
 -- after a cut that isn't synced: some length between
 pub record Cut (to : ℕ) (old new : List ℕ) : Type 0 where
   pub no_shorter : min to (length old) ≤ length new
-  pub front : take (length new) old ≡ new
+  pub prefix : take (length new) old ≡ new
 
 -- each new image is an old one after a step
 abbrev pub Follows : (List ℕ → List ℕ → Type 0) → (List ℕ → Type 0) → (List ℕ → Type 0) → Type 0

@@ -26,7 +26,7 @@ torn_by c at piece le =
     }
 
 pub cut_by : (c : List ℕ) (to : ℕ) → IsCut to c (take to c)
-cut_by c to = record { no_shorter = omega (arith, length-take to c); front = take_length to c }
+cut_by c to = record { no_shorter = omega (arith, length-take to c); prefix = take_length to c }
 
 pub reads_image : (calls : List Call) (w c : List ℕ) (I : List ℕ → Type 0) → total_of calls ≤ length w → is_valid calls w c ≡ true → I c → images_after calls w c I (content_after calls w c)
 reads_image [] w c I le valid here = here

@@ -41,7 +41,7 @@ pub trait Disk {
         ensures room { KeepsRoom (means self.old) (means self.new) }
         ensures cause { HasCause (means self.old).faults (means self.new).faults result };
 
-    /// Moves the bytes from `at` on to the front of `into`, and answers how many: all of `into`, or up to the end.
+    /// Moves the bytes from `at` on to the start of `into`, and answers how many: all of `into`, or up to the end.
     fn read(&mut self, at: u64, into: &mut [u8]) -> Result<usize, Failed>
         ensures count { IfOk result (λ n. n ≤ length into.old) }
         ensures whole { IsTrue told → IfOk result (λ n. n ≡ min (length into.old) (length (means self.old).content - at)) }

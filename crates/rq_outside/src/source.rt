@@ -15,7 +15,7 @@ pub trait Source {
     /// How often it has failed. It never falls.
     ghost faults: { Self → ℕ };
 
-    /// Moves the first of the bytes left to the front of `into`, and answers how many. Zero for a non-empty `into` is
+    /// Moves the first of the bytes left to the start of `into`, and answers how many. Zero for a non-empty `into` is
     /// the end of input.
     fn read(&mut self, into: &mut [u8]) -> Result<usize, Failed>
         ensures count { IfOk result (λ n. n ≤ length into.old) }

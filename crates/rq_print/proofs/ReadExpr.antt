@@ -22,7 +22,7 @@ use Rattle.rq_grammar.specs.Words.{Text, is_reserved, is_time}
 use Rattle.rq_grammar.specs.Grammar.{upper}
 use Rattle.rq_grammar.specs.Spelling.{is_bare, is_in_word, word_of}
 use Rattle.rq_grammar.specs.Print as P
-use Rattle.rq_grammar.specs.Print.{Front, front_step, front}
+use Rattle.rq_grammar.specs.Print.{Front, prefix_step, prefix}
 use Rattle.rq_grammar.specs.Proper.{all_of, proper_step, is_proper, is_literal, is_callee, is_parameter}
 use Rattle.rq_lexer.specs.Lex.{is_in_numeral}
 use Rattle.rq_lexer.specs.Spelled.{tokens_in, bytes_of, IsSpelled, ends_before}
@@ -140,7 +140,7 @@ behind_follows (x ∷ xs) y e = refl
 -- ---- expressions, each beside the proof of its parts
 
 abbrev pub ReadsSo : Expr → Type 0
-ReadsSo a = is_proper a ≡ true → is_written a ≡ true → Reads (expr_text a) (front a)
+ReadsSo a = is_proper a ≡ true → is_written a ≡ true → Reads (expr_text a) (prefix a)
 
 abbrev Item : Type 0
 Item = (a : Expr) × ReadsSo a
@@ -257,22 +257,22 @@ module _ (S : SpelledLaw) (B : BlankLaw) where
   pub closed : (x : Text) (f : Front) → Reads x f → Reads (x ++ codes ")") (λ y. f (t.Close ∷ y))
   closed x f q = followed x (codes ")") f (λ y. t.Close ∷ y) q (λ y e. refl) (weaken (codes ")") (λ y. t.Close ∷ y) close)
 
-  more_reads : (es : List Item) → all_of (map is_proper (bare_of es)) ≡ true → all_of (map is_written (bare_of es)) ≡ true → Reads (listed_behind (codes ", ") (map expr_text (bare_of es))) (P.more (map front (bare_of es)))
+  more_reads : (es : List Item) → all_of (map is_proper (bare_of es)) ≡ true → all_of (map is_written (bare_of es)) ≡ true → Reads (listed_behind (codes ", ") (map expr_text (bare_of es))) (P.more (map prefix (bare_of es)))
   more_reads [] g h = λ y e. refl
   more_reads (i ∷ es) g h =
       let c = both (is_proper i.0) (all_of (map is_proper (bare_of es))) g in
       let d = both (is_written i.0) (all_of (map is_written (bare_of es))) h in
       let rest = listed_behind (codes ", ") (map expr_text (bare_of es)) in
-      go (codes ", ") (expr_text i.0 ++ rest) (λ y. t.Comma ∷ y) (λ y. front i.0 (P.more (map front (bare_of es)) y)) comma
-      (followed (expr_text i.0) rest (front i.0) (P.more (map front (bare_of es))) (i.1 c.0 d.0) (behind_follows (map expr_text (bare_of es))) (more_reads es c.1 d.1))
+      go (codes ", ") (expr_text i.0 ++ rest) (λ y. t.Comma ∷ y) (λ y. prefix i.0 (P.more (map prefix (bare_of es)) y)) comma
+      (followed (expr_text i.0) rest (prefix i.0) (P.more (map prefix (bare_of es))) (i.1 c.0 d.0) (behind_follows (map expr_text (bare_of es))) (more_reads es c.1 d.1))
 
-  list_reads : (es : List Item) → all_of (map is_proper (bare_of es)) ≡ true → all_of (map is_written (bare_of es)) ≡ true → Reads (listed (map expr_text (bare_of es))) (P.commas (map front (bare_of es)))
+  list_reads : (es : List Item) → all_of (map is_proper (bare_of es)) ≡ true → all_of (map is_written (bare_of es)) ≡ true → Reads (listed (map expr_text (bare_of es))) (P.commas (map prefix (bare_of es)))
   list_reads [] g h = λ y e. refl
   list_reads (i ∷ es) g h =
       let c = both (is_proper i.0) (all_of (map is_proper (bare_of es))) g in
       let d = both (is_written i.0) (all_of (map is_written (bare_of es))) h in
       let rest = listed_behind (codes ", ") (map expr_text (bare_of es)) in
-      followed (expr_text i.0) rest (front i.0) (P.more (map front (bare_of es))) (i.1 c.0 d.0) (behind_follows (map expr_text (bare_of es))) (more_reads es c.1 d.1)
+      followed (expr_text i.0) rest (prefix i.0) (P.more (map prefix (bare_of es))) (i.1 c.0 d.0) (behind_follows (map expr_text (bare_of es))) (more_reads es c.1 d.1)
 
   binary_reads : (o : BinaryOp) (a b : Text) (f g : Front) → Reads a f → Reads b g → Reads (codes "(" ++ a ++ operator_text o ++ b ++ codes ")") (λ y. t.Open ∷ f (P.operator o (g (t.Close ∷ y))))
   binary_reads o a b f g p q =
@@ -314,7 +314,7 @@ module _ (S : SpelledLaw) (B : BlankLaw) where
   callee_bare n h = (both (is_bare n) (bytes_eq (upper n) n && (not (is_reserved (word_of n)) && not (is_time (word_of n)))) h).0
 
   -- one layer of an expression
-  layer : (x : Expr-F Item) → proper_step (map-Expr Expr Bool is_proper (map-Expr Item Expr (λ i. i.0) x)) ≡ true → written_step (map-Expr Expr Bool is_written (map-Expr Item Expr (λ i. i.0) x)) ≡ true → Reads (expr_step (map-Expr Expr Text expr_text (map-Expr Item Expr (λ i. i.0) x))) (front_step (map-Expr Expr Front front (map-Expr Item Expr (λ i. i.0) x)))
+  layer : (x : Expr-F Item) → proper_step (map-Expr Expr Bool is_proper (map-Expr Item Expr (λ i. i.0) x)) ≡ true → written_step (map-Expr Expr Bool is_written (map-Expr Item Expr (λ i. i.0) x)) ≡ true → Reads (expr_step (map-Expr Expr Text expr_text (map-Expr Item Expr (λ i. i.0) x))) (prefix_step (map-Expr Expr Front prefix (map-Expr Item Expr (λ i. i.0) x)))
   unfolding is_bare word_of
   layer (Expr-F.Literal a) g h = literal_reads a g h
   layer (Expr-F.Param n) g h = parameter_reads n g
@@ -326,30 +326,30 @@ module _ (S : SpelledLaw) (B : BlankLaw) where
   layer Expr-F.CountAll g h = count_reads
   layer (Expr-F.Call n es) g h =
       let c = both (is_callee n) (all_of (map is_proper (bare_of es))) g in
-      call_reads n (listed (map expr_text (bare_of es))) (P.commas (map front (bare_of es))) (callee_bare n c.0) (list_reads es c.1 h)
-  layer (Expr-F.Minus a) g h = go (codes "-(") (expr_text a.0 ++ codes ")") (λ y. t.Minus ∷ t.Open ∷ y) (λ y. front a.0 (t.Close ∷ y)) minus_reads (closed (expr_text a.0) (front a.0) (a.1 g h))
-  layer (Expr-F.Not a) g h = go (codes "(NOT ") (expr_text a.0 ++ codes ")") (λ y. t.Open ∷ P.word (codes "NOT") w.Not ∷ y) (λ y. front a.0 (t.Close ∷ y)) not_reads (closed (expr_text a.0) (front a.0) (a.1 g h))
+      call_reads n (listed (map expr_text (bare_of es))) (P.commas (map prefix (bare_of es))) (callee_bare n c.0) (list_reads es c.1 h)
+  layer (Expr-F.Minus a) g h = go (codes "-(") (expr_text a.0 ++ codes ")") (λ y. t.Minus ∷ t.Open ∷ y) (λ y. prefix a.0 (t.Close ∷ y)) minus_reads (closed (expr_text a.0) (prefix a.0) (a.1 g h))
+  layer (Expr-F.Not a) g h = go (codes "(NOT ") (expr_text a.0 ++ codes ")") (λ y. t.Open ∷ P.word (codes "NOT") w.Not ∷ y) (λ y. prefix a.0 (t.Close ∷ y)) not_reads (closed (expr_text a.0) (prefix a.0) (a.1 g h))
   layer (Expr-F.Binary o a b) g h =
       let c = both (is_proper a.0) (is_proper b.0) g in
       let d = both (is_written a.0) (is_written b.0) h in
-      binary_reads o (expr_text a.0) (expr_text b.0) (front a.0) (front b.0) (a.1 c.0 d.0) (b.1 c.1 d.1)
+      binary_reads o (expr_text a.0) (expr_text b.0) (prefix a.0) (prefix b.0) (a.1 c.0 d.0) (b.1 c.1 d.1)
   layer (Expr-F.InList n a es) g h =
       let c = both (is_proper a.0) (all_of (map is_proper (bare_of es))) g in
       let d = both (is_written a.0) (all_of (map is_written (bare_of es))) h in
-      in_list_reads n (expr_text a.0) (listed (map expr_text (bare_of es))) (front a.0) (P.commas (map front (bare_of es))) (a.1 c.0 d.0) (list_reads es c.1 d.1)
+      in_list_reads n (expr_text a.0) (listed (map expr_text (bare_of es))) (prefix a.0) (P.commas (map prefix (bare_of es))) (a.1 c.0 d.0) (list_reads es c.1 d.1)
   layer (Expr-F.Between n a b c) g h =
       let p = both (is_proper a.0) (is_proper b.0 && is_proper c.0) g in
       let q = both (is_proper b.0) (is_proper c.0) p.1 in
       let r = both (is_written a.0) (is_written b.0 && is_written c.0) h in
       let s = both (is_written b.0) (is_written c.0) r.1 in
-      between_all_read n (expr_text a.0) (expr_text b.0) (expr_text c.0) (front a.0) (front b.0) (front c.0) (a.1 p.0 r.0) (b.1 q.0 s.0) (c.1 q.1 s.1)
+      between_all_read n (expr_text a.0) (expr_text b.0) (expr_text c.0) (prefix a.0) (prefix b.0) (prefix c.0) (a.1 p.0 r.0) (b.1 q.0 s.0) (c.1 q.1 s.1)
 
   whole : (x : Expr-F Item) → ReadsSo (roll-Expr (map-Expr Item Expr (λ i. i.0) x))
   whole x g h y e =
       let z = map-Expr Item Expr (λ i. i.0) x in
       ap (λ s. tokens_in (s ++ y)) (fold-roll-Expr Text expr_step z)
       ∙ layer x (sym (fold-roll-Expr Bool proper_step z) ∙ g) (sym (fold-roll-Expr Bool written_step z) ∙ h) y e
-      ∙ sym (ap (λ f. f (tokens_in y)) (fold-roll-Expr Front front_step z))
+      ∙ sym (ap (λ f. f (tokens_in y)) (fold-roll-Expr Front prefix_step z))
 
   pub expr_reads : (a : Expr) → ReadsSo a
   expr_reads = ind-Expr ReadsSo (λ x y is. subst (λ x. ReadsSo (roll-Expr x)) is (whole y))

@@ -20,7 +20,7 @@ use Rattle.rq_grammar.specs.declared.stmt.Stmt.TheVariants as stmt
 use Rattle.rq_grammar.specs.Words.{Text}
 use Rattle.rq_grammar.specs.Spelling.{is_bare, word_of}
 use Rattle.rq_grammar.specs.Print as P
-use Rattle.rq_grammar.specs.Print.{Front, front, tokens_of}
+use Rattle.rq_grammar.specs.Print.{Front, prefix, tokens_of}
 use Rattle.rq_grammar.specs.Proper.{all_of, is_some_of, is_proper, is_maybe, is_row, is_result, is_term, are_limits, is_select, is_set, are_rows, are_names, is_statement}
 use Rattle.rq_lexer.specs.Spelled.{tokens_in}
 use Rattle.rq_print.specs.Text as spec
@@ -96,7 +96,7 @@ inserted_follows (rows.Values rs) y e = refl
 inserted_follows (rows.Select q) y e = refl
 
 module _ (S : SpelledLaw) (B : BlankLaw) where
-  expr_reads : (a : Expr) → is_proper a ≡ true → is_written a ≡ true → Reads (expr_text a) (front a)
+  expr_reads : (a : Expr) → is_proper a ≡ true → is_written a ≡ true → Reads (expr_text a) (prefix a)
   expr_reads = R.expr_reads S B
 
   -- ---- lists
@@ -126,7 +126,7 @@ module _ (S : SpelledLaw) (B : BlankLaw) where
 
   where_reads : (g : Option Expr) → is_maybe g ≡ true → maybe_written g ≡ true → Reads (clause_text (codes " WHERE ") g) (P.filter g)
   where_reads None g h = λ y e. refl
-  where_reads (Some a) g h = go (codes " WHERE ") (expr_text a) (λ y. P.word (codes "WHERE") w.Where ∷ y) (front a) where_word (expr_reads a g h)
+  where_reads (Some a) g h = go (codes " WHERE ") (expr_text a) (λ y. P.word (codes "WHERE") w.Where ∷ y) (prefix a) where_word (expr_reads a g h)
 
   offset_word : Passes (codes " OFFSET ") (λ y. P.word (codes "OFFSET") w.Offset ∷ y)
   unfolding is_bare word_of
@@ -134,7 +134,7 @@ module _ (S : SpelledLaw) (B : BlankLaw) where
 
   offset_reads : (g : Option Expr) → is_maybe g ≡ true → maybe_written g ≡ true → Reads (clause_text (codes " OFFSET ") g) (P.offset g)
   offset_reads None g h = λ y e. refl
-  offset_reads (Some a) g h = go (codes " OFFSET ") (expr_text a) (λ y. P.word (codes "OFFSET") w.Offset ∷ y) (front a) offset_word (expr_reads a g h)
+  offset_reads (Some a) g h = go (codes " OFFSET ") (expr_text a) (λ y. P.word (codes "OFFSET") w.Offset ∷ y) (prefix a) offset_word (expr_reads a g h)
 
   as_word : Passes (codes " AS ") (λ y. P.word (codes "AS") w.As ∷ y)
   unfolding is_bare word_of
@@ -156,7 +156,7 @@ module _ (S : SpelledLaw) (B : BlankLaw) where
   result_reads item.All g h = λ y e. S t.Star y tt refl
   result_reads (item.Value a n) g h =
       let d = both (is_written a) (maybe_text n) h in
-      followed (expr_text a) (name_clause_text (codes " AS ") n) (front a) (P.alias n) (expr_reads a g d.0) (alias_follows n) (alias_reads n d.1)
+      followed (expr_text a) (name_clause_text (codes " AS ") n) (prefix a) (P.alias n) (expr_reads a g d.0) (alias_follows n) (alias_reads n d.1)
 
   direction_reads : (b : Bool) → Reads (flag_text b (codes " DESC")) (P.direction b)
   unfolding is_bare word_of
@@ -164,7 +164,7 @@ module _ (S : SpelledLaw) (B : BlankLaw) where
   direction_reads false y e = refl
 
   term_reads : (i : OrderTerm) → is_term i ≡ true → term_written i ≡ true → Reads (spec.term_text i) (P.term i)
-  term_reads i g h = followed (expr_text i.expr) (flag_text i.descending (codes " DESC")) (front i.expr) (P.direction i.descending) (expr_reads i.expr g h) (flag_follows i.descending (codes " DESC") (λ y e. refl)) (direction_reads i.descending)
+  term_reads i g h = followed (expr_text i.expr) (flag_text i.descending (codes " DESC")) (prefix i.expr) (P.direction i.descending) (expr_reads i.expr g h) (flag_follows i.descending (codes " DESC") (λ y e. refl)) (direction_reads i.descending)
 
   order_words : Passes (codes " ORDER BY ") (λ y. P.word (codes "ORDER") w.Order ∷ P.word (codes "BY") w.By ∷ y)
   unfolding is_bare word_of
@@ -183,9 +183,9 @@ module _ (S : SpelledLaw) (B : BlankLaw) where
   limit_reads (Some a) b g h =
       let c = both (is_proper a) (is_maybe b) g in
       let d = both (is_written a) (maybe_written b) h in
-      same (λ y. P.word (codes "LIMIT") w.Limit ∷ front a (P.offset b y)) (append_assoc (codes " LIMIT ") (expr_text a) (clause_text (codes " OFFSET ") b))
-      (go (codes " LIMIT ") (expr_text a ++ clause_text (codes " OFFSET ") b) (λ y. P.word (codes "LIMIT") w.Limit ∷ y) (λ y. front a (P.offset b y)) limit_word
-      (followed (expr_text a) (clause_text (codes " OFFSET ") b) (front a) (P.offset b) (expr_reads a c.0 d.0) (offset_follows b) (offset_reads b c.1 d.1)))
+      same (λ y. P.word (codes "LIMIT") w.Limit ∷ prefix a (P.offset b y)) (append_assoc (codes " LIMIT ") (expr_text a) (clause_text (codes " OFFSET ") b))
+      (go (codes " LIMIT ") (expr_text a ++ clause_text (codes " OFFSET ") b) (λ y. P.word (codes "LIMIT") w.Limit ∷ y) (λ y. prefix a (P.offset b y)) limit_word
+      (followed (expr_text a) (clause_text (codes " OFFSET ") b) (prefix a) (P.offset b) (expr_reads a c.0 d.0) (offset_follows b) (offset_reads b c.1 d.1)))
 
   select_word : Passes (codes "SELECT ") (λ y. P.word (codes "SELECT") w.Select ∷ y)
   unfolding is_bare word_of
@@ -272,9 +272,9 @@ module _ (S : SpelledLaw) (B : BlankLaw) where
 
   row_reads : (xs : List Expr) → is_row xs ≡ true → row_written xs ≡ true → Reads (spec.row_text xs) (P.row xs)
   row_reads xs g h =
-      same (λ y. t.Open ∷ P.commas (map front xs) (t.Close ∷ y)) (append_assoc (codes "(") (listed (map expr_text xs)) (codes ")"))
-      (go (codes "(") (listed (map expr_text xs) ++ codes ")") (λ y. t.Open ∷ y) (λ y. P.commas (map front xs) (t.Close ∷ y)) (R.opens S B)
-      (R.closed S B (listed (map expr_text xs)) (P.commas (map front xs)) (list_of expr_text front is_proper is_written expr_reads xs (some_all (map is_proper xs) g) h)))
+      same (λ y. t.Open ∷ P.commas (map prefix xs) (t.Close ∷ y)) (append_assoc (codes "(") (listed (map expr_text xs)) (codes ")"))
+      (go (codes "(") (listed (map expr_text xs) ++ codes ")") (λ y. t.Open ∷ y) (λ y. P.commas (map prefix xs) (t.Close ∷ y)) (R.opens S B)
+      (R.closed S B (listed (map expr_text xs)) (P.commas (map prefix xs)) (list_of expr_text prefix is_proper is_written expr_reads xs (some_all (map is_proper xs) g) h)))
 
   values_word : Passes (codes " VALUES ") (λ y. P.word (codes "VALUES") w.Values ∷ y)
   unfolding is_bare word_of
@@ -287,9 +287,9 @@ module _ (S : SpelledLaw) (B : BlankLaw) where
   set_reads : (i : Text × Expr) → is_set i ≡ true → set_written i ≡ true → Reads (spec.set_text i) (P.set i)
   set_reads i g h =
       let d = both (is_text i.0) (is_written i.1) h in
-      same (λ y. t.Quoted i.0 ∷ t.Equal ∷ front i.1 y) (append_assoc (name_text i.0) (codes " = ") (expr_text i.1))
-      (followed (name_text i.0) (codes " = " ++ expr_text i.1) (λ y. t.Quoted i.0 ∷ y) (λ y. t.Equal ∷ front i.1 y) (R.name_reads S B i.0 d.0) (λ y e. refl)
-      (go (codes " = ") (expr_text i.1) (λ y. t.Equal ∷ y) (front i.1) (R.operator_reads S B op.Equal) (expr_reads i.1 g d.1)))
+      same (λ y. t.Quoted i.0 ∷ t.Equal ∷ prefix i.1 y) (append_assoc (name_text i.0) (codes " = ") (expr_text i.1))
+      (followed (name_text i.0) (codes " = " ++ expr_text i.1) (λ y. t.Quoted i.0 ∷ y) (λ y. t.Equal ∷ prefix i.1 y) (R.name_reads S B i.0 d.0) (λ y e. refl)
+      (go (codes " = ") (expr_text i.1) (λ y. t.Equal ∷ y) (prefix i.1) (R.operator_reads S B op.Equal) (expr_reads i.1 g d.1)))
 
   set_word : Passes (codes " SET ") (λ y. P.word (codes "SET") w.Set ∷ y)
   unfolding is_bare word_of

@@ -117,7 +117,7 @@ impl<T: Drop> Queue<T> {
     }
 }
 
-/// Moves at most this many items from the front to the end of a list that has room for them, with numbers from this one on.
+/// Moves at most this many items from the start to the end of a list that has room for them, with numbers from this one on.
 fn move_front<T: Drop>(from: &mut VecDeque<T>, number: u64, count: usize, into: &mut Vec<(u64, T)>)
     requires room { length into.old.items + count ≤ vec_capacity into.old }
     requires small { number + count < 2 ^ 64 }

@@ -105,9 +105,9 @@ module _ {E : Type 0} (g : Given E) where
       let down = ap role_of r in
       let new : take upto n.log ≢ take upto z.log = λ q. ⊎_elim (λ (k : d ≡ length es). eq_false d (length es) e k) (λ (no : take (prev + d + 1) n.log ≢ take (prev + d + 1) z.log). no (same_less n.log z.log upto (prev + d + 1) (omega arith) q)) th.last in
       let a = moved_down g h i n m l f (Accept p.from z upto led s.fits new down refl refl down is refl) f.id f.done f.based r in
-      let front : take upto log ≡ take upto z.log = ap (take upto) is ∙ take-take upto upto z.log (omega arith) in
-      let b = learn_ok a.after i p.from commit upto m z a.lawful a.fits r (led_on h a.after p.from n.term z a.later led) s.committed (same_fits z.log log upto s.fits (sym front)) front in
-      (record { term = refl; vote = refl; end = and_then g h i m (with_commit m commit upto) a b; packets_are_true = tt; stores = inr (inl (prev + d + 1, drop d es, refl, splice, refl)) }, front))
+      let prefix : take upto log ≡ take upto z.log = ap (take upto) is ∙ take-take upto upto z.log (omega arith) in
+      let b = learn_ok a.after i p.from commit upto m z a.lawful a.fits r (led_on h a.after p.from n.term z a.later led) s.committed (same_fits z.log log upto s.fits (sym prefix)) prefix in
+      (record { term = refl; vote = refl; end = and_then g h i m (with_commit m commit upto) a b; packets_are_true = tt; stores = inr (inl (prev + d + 1, drop d es, refl, splice, refl)) }, prefix))
     where
       z : Node E
       z = s.leader

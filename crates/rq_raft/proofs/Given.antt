@@ -5,7 +5,7 @@ use Rattle.rq_history.specs.History.{NodeId, Node, History, Was, WasBefore, Led,
 use Rattle.rq_history.specs.Configurations.{configuration_index, voters_in, newest_voters}
 use Rattle.rq_history.specs.Laws.{OneLeaderATerm, LogsMatch, LeadersGrow, LeadersAgree, CommitsAreBacked, MomentsAreOrdered, ChangesAreLocal, IsRun}
 use Rattle.rq_raft.specs.Entries.{Entries, AreRight, voters, entry_view, members_in, members_or, configuration}
-use Rattle.rq_raft.proofs.Logs.{front_same}
+use Rattle.rq_raft.proofs.Logs.{prefix_same}
 
 pub record Given (E : Type 0) : Type 0 where
   pub entries : Entries E
@@ -41,6 +41,6 @@ module _ {E : Type 0} (g : Given E) where
       let e = g.one_leader (voters g.first) h l i j term x y p q in
       let wy : Was h i y = subst (λ (k : NodeId). Was h k y) (sym e) q.was in
       ⊎_elim
-      (λ (o : WasBefore h i x y). front_same x.log y.log n a ((g.leaders_grow (voters g.first) h l i x y o p.leads q.leads (p.in_term ∙ sym q.in_term)).0))
-      (λ (o : WasBefore h i y x). sym (front_same y.log x.log n b ((g.leaders_grow (voters g.first) h l i y x o q.leads p.leads (q.in_term ∙ sym p.in_term)).0)))
+      (λ (o : WasBefore h i x y). prefix_same x.log y.log n a ((g.leaders_grow (voters g.first) h l i x y o p.leads q.leads (p.in_term ∙ sym q.in_term)).0))
+      (λ (o : WasBefore h i y x). sym (prefix_same y.log x.log n b ((g.leaders_grow (voters g.first) h l i y x o q.leads p.leads (q.in_term ∙ sym p.in_term)).0)))
       ((g.moments h i).1 x y p.was wy)

@@ -34,8 +34,8 @@ module _ {E : Type 0} (g : Given E) where
     z : Node E
     z = s.leader
 
-    front : list ≡ take (length list) s.leader.log
-    front = s.are
+    prefix : list ≡ take (length list) s.leader.log
+    prefix = s.are
 
     led : Led h p.from n.term s.leader
     led = record { was = s.led.was; leads = s.led.leads; in_term = s.led.in_term ∙ t }
@@ -59,9 +59,9 @@ module _ {E : Type 0} (g : Given E) where
             let fits = le_true (length list) (length n.log) b.0 in
             let same_term : term_at (entry_view g.entries) n.log (length list) ≡ term_at (entry_view g.entries) s.leader.log (length list) =
             eq_true (term_at (entry_view g.entries) n.log (length list)) (term_at (entry_view g.entries) list (length list)) b.1
-            ∙ term_same (entry_view g.entries) list s.leader.log (length list) (length list) (omega arith) (take_all (length list) list (omega arith) ∙ front) in
+            ∙ term_same (entry_view g.entries) list s.leader.log (length list) (length list) (omega arith) (take_all (length list) list (omega arith) ∙ prefix) in
             let same = matches g h i p.from (length list) n s.leader l f s.led.was fits small same_term in
-            let own : list ++ drop (length list) n.log ≡ n.log = ap (λ (x : List E). x ++ drop (length list) n.log) (front ∙ sym same) ∙ take-append-drop (length list) n.log in
+            let own : list ++ drop (length list) n.log ≡ n.log = ap (λ (x : List E). x ++ drop (length list) n.log) (prefix ∙ sym same) ∙ take-append-drop (length list) n.log in
             let m = record n { log = list ++ drop (length list) n.log; base = length list; commit = length list; applied = length list } in
             let same2 : take (length list) m.log ≡ take (length list) s.leader.log = ap (take (length list)) own ∙ same in
             let down = ap role_of r in (
@@ -76,7 +76,7 @@ module _ {E : Type 0} (g : Given E) where
             )
         go false e =
             let down = ap role_of r in
-            let whole : list ++ [] ≡ take (length list) s.leader.log = append-nil list ∙ front in
+            let whole : list ++ [] ≡ take (length list) s.leader.log = append-nil list ∙ prefix in
             let a = moved_down g h i n (record n { log = list ++ [] }) l f (Accept p.from s.leader (length list) led small (λ q. other e q) down refl refl down whole refl) f.id f.done f.based r in
             let m = record n { log = list ++ []; base = length list; commit = length list; applied = length list } in
             let same : take (length list) (list ++ []) ≡ take (length list) s.leader.log = ap (take (length list)) whole ∙ take-take (length list) (length list) s.leader.log (omega arith) in
@@ -89,7 +89,7 @@ module _ {E : Type 0} (g : Given E) where
                 let fits = same_fits s.leader.log n.log (length list) small (sym q) in
                 let terms : term_at (entry_view g.entries) n.log (length list) ≡ term_at (entry_view g.entries) list (length list) =
                 term_same (entry_view g.entries) n.log s.leader.log (length list) (length list) (omega arith) q
-                ∙ sym (term_same (entry_view g.entries) list s.leader.log (length list) (length list) (omega arith) (take_all (length list) list (omega arith) ∙ front)) in
+                ∙ sym (term_same (entry_view g.entries) list s.leader.log (length list) (length list) (omega arith) (take_all (length list) list (omega arith) ∙ prefix)) in
                 never (nat_le (length list) (length n.log)) (term_at (entry_view g.entries) n.log (length list) == term_at (entry_view g.entries) list (length list)) (le_is (length list) (length n.log) fits) (eq_is (term_at (entry_view g.entries) n.log (length list)) (term_at (entry_view g.entries) list (length list)) terms) e
               where
                 never : (a b : Bool) → a ≡ true → b ≡ true → (a && b) ≡ false → Prim.⊥

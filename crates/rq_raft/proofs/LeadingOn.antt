@@ -111,13 +111,13 @@ module _ {E : Type 0} (entries : Entries E) (first : List Member) where
   by_on : (n : RaftNode E) (m : Message E) (t : RaftTurn E) → On n t → By n m t
   by_on n m t o = (inl o.0, o.1)
 
-  list_front : (list more : List E) → take (length list) (list ++ more) ≡ list
-  list_front list more = take-append-le (length list) list more (omega arith) ∙ take_all (length list) list (omega arith)
+  list_prefix : (list more : List E) → take (length list) (list ++ more) ≡ list
+  list_prefix list more = take-append-le (length list) list more (omega arith) ∙ take_all (length list) list (omega arith)
 
   taken_down : (n m : RaftNode E) (probe : ℕ) (list : List E) → m.commit ≡ n.commit → m.applied ≡ n.applied → m.role ≡ Follower → DownBy n (Install probe list) (installs entries m list)
   taken_down n m probe list commit applied r = if_case (DownBy n (Install probe list)) (nat_le (length list) m.commit) (unchanged m) (replaced entries m list)
       (λ e. (inl applied, λ q. becomes_follower m.role r q))
-      (λ e. let beyond = lt_of (length list) m.commit e in (inr (omega (arith, beyond, commit), refl, list_front list (if_else (has_last entries m list) (drop (length list) m.log)), r), λ q. becomes_follower m.role r q))
+      (λ e. let beyond = lt_of (length list) m.commit e in (inr (omega (arith, beyond, commit), refl, list_prefix list (if_else (has_last entries m list) (drop (length list) m.log)), r), λ q. becomes_follower m.role r q))
     where
       becomes_follower : (x : Role) → x ≡ Follower → x ≡ Leader → Prim.⊥
       becomes_follower x a b = cc

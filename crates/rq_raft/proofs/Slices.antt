@@ -13,7 +13,7 @@ module _ {E : Type 0} where
   pub slice_same : (a b : List E) (prev k : ℕ) → take (prev + k) a ≡ take (prev + k) b → take k (drop prev a) ≡ take k (drop prev b)
   slice_same a b prev k e = cc (drop-take prev k a, drop-take prev k b, ap (drop prev) e)
 
-  -- the front up to prev + d, and then the rest of the slice
+  -- the prefix up to prev + d, and then the rest of the slice
   pub joined : (l : List E) (prev d k : ℕ) → d ≤ k → take (prev + d) l ++ drop d (take k (drop prev l)) ≡ take (prev + k) l
   joined l prev d k le =
       let t = take-append-drop (prev + d) (take (prev + k) l) in

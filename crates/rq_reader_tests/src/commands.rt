@@ -1,6 +1,6 @@
 use rq_command::decode_execute;
-use rq_values::DecodeError;
 use rq_engine::encode_execute;
+use rq_values::DecodeError;
 use std::alloc::Global;
 use std::test::Fail;
 

@@ -82,7 +82,7 @@ fn texts_and_their_refusals(rt: HostRuntime) -> Result<(), Fail> {
 
 /// `SELECT ` and a piece that is repeated between two others.
 struct Long {
-    front: &'static str,
+    prefix: &'static str,
     piece: &'static str,
     count: usize,
     back: &'static str,
@@ -91,91 +91,91 @@ struct Long {
 
 const LONG: [Long; 13] = [
     Long {
-        front: "1",
+        prefix: "1",
         piece: "+1",
         count: 99,
         back: "",
         refusal: None,
     },
     Long {
-        front: "1",
+        prefix: "1",
         piece: "+1",
         count: 100,
         back: "",
         refusal: Some(ReadError::TooDeep(206)),
     },
     Long {
-        front: "1",
+        prefix: "1",
         piece: "+1",
         count: 100,
         back: " FROM FROM",
         refusal: Some(ReadError::TooDeep(206)),
     },
     Long {
-        front: "",
+        prefix: "",
         piece: "- ",
         count: 99,
         back: "a",
         refusal: None,
     },
     Long {
-        front: "",
+        prefix: "",
         piece: "- ",
         count: 100,
         back: "a",
         refusal: Some(ReadError::TooDeep(207)),
     },
     Long {
-        front: "",
+        prefix: "",
         piece: "- ",
         count: 100,
         back: "5",
         refusal: None,
     },
     Long {
-        front: "",
+        prefix: "",
         piece: "f(",
         count: 98,
         back: "f())",
         refusal: Some(ReadError::Near { from: 207, to: 207 }),
     },
     Long {
-        front: "",
+        prefix: "",
         piece: "f(",
         count: 99,
         back: "f",
         refusal: Some(ReadError::Near { from: 206, to: 206 }),
     },
     Long {
-        front: "",
+        prefix: "",
         piece: "f(",
         count: 99,
         back: "f(",
         refusal: Some(ReadError::TooDeep(206)),
     },
     Long {
-        front: "",
+        prefix: "",
         piece: "(",
         count: 250,
         back: "a",
         refusal: Some(ReadError::Near { from: 258, to: 258 }),
     },
     Long {
-        front: "",
+        prefix: "",
         piece: "(",
         count: 251,
         back: "a",
         refusal: Some(ReadError::TooDeep(257)),
     },
     Long {
-        front: "",
+        prefix: "",
         piece: "(",
         count: 250,
         back: "a IN (1)",
         refusal: Some(ReadError::TooDeep(259)),
     },
     Long {
-        front: "",
+        prefix: "",
         piece: "+ ",
         count: 1000,
         back: "a",
@@ -185,7 +185,7 @@ const LONG: [Long; 13] = [
 
 fn text_of(alloc: Global, long: &Long) -> Result<String, Fail> {
     let mut text = String::from_str(alloc, "SELECT ")?;
-    text.push_str(long.front)?;
+    text.push_str(long.prefix)?;
     text.push_str(&long.piece.repeat(alloc, long.count)?)?;
     text.push_str(long.back)?;
     Ok(text)

@@ -21,10 +21,10 @@ pub enum Refusal {
 }
 
 /// One text and then another.
-fn joined(alloc: Global, front: &[u8], back: &[u8]) -> Result<Vec<u8>, NoMemory>
-    ensures { IfOk result (λ text. text.items ≡ front.now ++ back.now) }
+fn joined(alloc: Global, prefix: &[u8], back: &[u8]) -> Result<Vec<u8>, NoMemory>
+    ensures { IfOk result (λ text. text.items ≡ prefix.now ++ back.now) }
 {
-    let mut text = Vec::from_slice(alloc, front)?;
+    let mut text = Vec::from_slice(alloc, prefix)?;
     text.extend_from_slice(back)?;
     Ok(text)
 }

@@ -10,10 +10,10 @@ use Rattle.rq_node.specs.declared.log_entry.LogEntry.{LogEntry}
 use Rattle.rq_node.specs.declared.log_entry.Content.{Content}
 use Rattle.rq_node.specs.declared.log_entry.Content.TheVariants.{NoOp, Execute as ExecuteList}
 use Rattle.rq_node.specs.declared.waiting.Waiting.{Waiting}
-use Rattle.rq_node.specs.Node.{Node, Kept, Durable, Turn, quiet, says}
+use Rattle.rq_node.specs.Node.{Node, Persistent, StoredRecord, Turn, unchanged, says}
 use Rattle.rq_node.specs.Rules.{is_leader, led, elect, taken_up, execute_sized, left_waiting, applied_content, applied_entry, apply_next, apply_times, execute, query, apply}
 use Rattle.rq_node.specs.Sound.{most_bytes}
-use Rattle.rq_node.specs.Files.{first_kept}
+use Rattle.rq_node.specs.Files.{first_persistent}
 use Rattle.rq_script.specs.ScriptLine.{Line, Skip, Cluster as ClusterLine, Elect, Apply, Execute, Query, Stop, StopWithin, Start, Show, line_of}
 use Rattle.rq_script.specs.Cluster.{Stand, Running, Down, Server, Cluster, Written, new_server, Fault, NoFault, Reading, Storing, Course, Fate, Done, Struck, Failed, fate, ended, happens_at, opens, starts, stops, arms, shown, at_server, event_at, ask_at, founded, done, step}
 use Rattle.rq_script.specs.Runs.{Runs}
@@ -100,7 +100,7 @@ all_due chosen book (suc k) turn stands covers bound due =
 answers_all : (chosen : List LogEntry) (book : List Note) (n : Node) → Stands chosen book n → n.commit ≤ length chosen → Due n.applied n.waiting n.commit → AppliesAnswerAll n
 answers_all chosen book n stands covers due =
     let within = stands.within in
-    all_due chosen book (n.commit - n.applied) (quiet n) stands covers (omega (arith, within)) due
+    all_due chosen book (n.commit - n.applied) (unchanged n) stands covers (omega (arith, within)) due
 
 -- ---- turns
 
@@ -116,7 +116,7 @@ ended_due Failed course s n turn asked due = tt
 elect_due : (n : Node) → n.commit ≤ length n.log → IsDue (Running n) → IsDue (Running (elect n).node)
 elect_due n inside due = at (is_leader n.role || (n.term == 2 ^ 64 - 1))
   where
-    at : (b : Bool) → IsDue (Running (if b then quiet n else led n).node)
+    at : (b : Bool) → IsDue (Running (if b then unchanged n else led n).node)
     at true = due
     at false = due_more n.applied n.waiting n.commit (length n.log + 1) (omega (arith, inside)) due
 
@@ -171,7 +171,7 @@ module _ (chosen : List LogEntry) (book : List Note) where
 
   event_due : (course : Course) (rule : Node → Turn) (asked : List ℕ) → ((n : Node) → Stands chosen book n → n.commit ≤ length chosen → IsDue (Running n) → IsDue (Running (rule n).node))
       → (s : Server) (stand : Stand) → Fits chosen book stand → IsDue stand → IsDue (happens_at course (record s { stand = stand }) rule asked).0.stand
-  event_due course rule asked goes s (Running n) (stands, covers) due = ended_due (fate course s.armed (rule n).durable) course (record s { stand = Running n }) n (rule n) asked (goes n stands covers due)
+  event_due course rule asked goes s (Running n) (stands, covers) due = ended_due (fate course s.armed (rule n).records) course (record s { stand = Running n }) n (rule n) asked (goes n stands covers due)
   event_due course rule asked goes s (Down kept rest) fits due = tt
 
   asked_due : (c : Cluster) (course : Course) (id body : List ℕ) (rule : ℕ → List Item → Node → Turn) (items : List Item) → FitsAt chosen book c.server → DueAt c.server
@@ -183,7 +183,7 @@ module _ (chosen : List LogEntry) (book : List Note) where
       by None = tt
       by (Some texts) = server_due (record c { asks = c.asks + 1 }) id (λ s. Some (happens_at course s (rule (c.asks + 1) items) ((c.asks + 1) ∷ []))) fits due (event_due course (rule (c.asks + 1) items) ((c.asks + 1) ∷ []) goes)
 
-  opens_due : (course : Course) (s : Server) (kept : Kept) (rest : List Durable) (fault : Fault) → IsDue (opens (record course { fault = fault }) (record s { stand = Down kept rest }) kept rest).0.stand
+  opens_due : (course : Course) (s : Server) (kept : Persistent) (rest : List StoredRecord) (fault : Fault) → IsDue (opens (record course { fault = fault }) (record s { stand = Down kept rest }) kept rest).0.stand
   opens_due course s kept rest NoFault = tt
   opens_due course s kept rest Reading = tt
   opens_due course s kept rest Storing = tt
@@ -192,7 +192,7 @@ module _ (chosen : List LogEntry) (book : List Note) where
   found_due c course id = at c.server
     where
       at : (o : Option Server) → MayDue (founded course (record c { server = o }) id)
-      at None = opens_due course (new_server id) first_kept [] course.fault
+      at None = opens_due course (new_server id) first_persistent [] course.fault
       at (Some s) = tt
 
   start_due : (course : Course) (s : Server) (stand : Stand) → Fits chosen book stand → IsDue stand → ActDue (starts course (record s { stand = stand }))

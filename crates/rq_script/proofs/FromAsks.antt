@@ -12,10 +12,10 @@ use Rattle.rq_json.specs.Body.{texts_of}
 use Rattle.rq_node.specs.declared.log_entry.LogEntry.{LogEntry}
 use Rattle.rq_node.specs.declared.log_entry.Content.{Content}
 use Rattle.rq_node.specs.declared.log_entry.Content.TheVariants as content
-use Rattle.rq_node.specs.Node.{Node, Kept, Durable, Vote, Splice, Boot, Turn, kept_of, kept_after, quiet, says}
+use Rattle.rq_node.specs.Node.{Node, Persistent, StoredRecord, Vote, Splice, Boot, Turn, persistent_of, persistent_after, unchanged, says}
 use Rattle.rq_node.specs.Rules.{is_leader, led, elect, taken_up, execute_sized, applied_content, applied_entry, apply_next, apply_times, execute, query, apply}
 use Rattle.rq_node.specs.Sound.{most_bytes}
-use Rattle.rq_node.specs.Files.{first_kept}
+use Rattle.rq_node.specs.Files.{first_persistent}
 use Rattle.rq_script.specs.ScriptLine.{Line, Skip, Cluster as ClusterLine, Elect, Apply, Execute, Query, Stop, StopWithin, Start, Show, line_of}
 use Rattle.rq_script.specs.Cluster.{Stand, Running, Down, Server, Cluster, Written, new_server, Fault, NoFault, Reading, Storing, Course, Fate, Done, Struck, Failed, fate, ended, happens_at, opens, starts, stops, arms, shown, at_server, event_at, ask_at, founded, done, step}
 use Rattle.rq_script.specs.Runs.{Runs}
@@ -48,11 +48,11 @@ noop_behind book last (entry ∷ log) term most (k, is, rest) = (k, is, noop_beh
 -- ---- what is kept
 
 module _ (P : List LogEntry → Type 0) where
-  nothing_kept : (kept : Kept) → P kept.log → (stands : ℕ) → P (kept_after kept (take stands [])).log
-  nothing_kept kept p zero = p
-  nothing_kept kept p (suc k) = p
+  nothing_persistent : (kept : Persistent) → P kept.log → (stands : ℕ) → P (persistent_after kept (take stands [])).log
+  nothing_persistent kept p zero = p
+  nothing_persistent kept p (suc k) = p
 
-  boot_kept : (kept : Kept) (boot : ℕ) → P kept.log → (stands : ℕ) → P (kept_after kept (take stands (Boot boot ∷ []))).log
+  boot_kept : (kept : Persistent) (boot : ℕ) → P kept.log → (stands : ℕ) → P (persistent_after kept (take stands (Boot boot ∷ []))).log
   boot_kept kept boot p zero = p
   boot_kept kept boot p (suc zero) = p
   boot_kept kept boot p (suc (suc k)) = p
@@ -60,33 +60,33 @@ module _ (P : List LogEntry → Type 0) where
   behind_all : (log entries : List LogEntry) → P (log ++ entries) → P (take (length log + 1 - 1) log ++ entries)
   behind_all log entries p = subst (λ (l : List LogEntry). P (l ++ entries)) (sym (take_all (length log + 1 - 1) log (omega arith))) p
 
-  splice_kept : (kept : Kept) (entries : List LogEntry) → P kept.log → P (kept.log ++ entries) → (stands : ℕ) → P (kept_after kept (take stands (Splice (length kept.log + 1) entries ∷ []))).log
+  splice_kept : (kept : Persistent) (entries : List LogEntry) → P kept.log → P (kept.log ++ entries) → (stands : ℕ) → P (persistent_after kept (take stands (Splice (length kept.log + 1) entries ∷ []))).log
   splice_kept kept entries p q zero = p
   splice_kept kept entries p q (suc zero) = behind_all kept.log entries q
   splice_kept kept entries p q (suc (suc k)) = behind_all kept.log entries q
 
-  vote_kept : (kept : Kept) (term : ℕ) (vote : Option (List ℕ)) (entries : List LogEntry) → P kept.log → P (kept.log ++ entries)
-      → (stands : ℕ) → P (kept_after kept (take stands (Vote term vote ∷ Splice (length kept.log + 1) entries ∷ []))).log
+  vote_kept : (kept : Persistent) (term : ℕ) (vote : Option (List ℕ)) (entries : List LogEntry) → P kept.log → P (kept.log ++ entries)
+      → (stands : ℕ) → P (persistent_after kept (take stands (Vote term vote ∷ Splice (length kept.log + 1) entries ∷ []))).log
   vote_kept kept term vote entries p q zero = p
   vote_kept kept term vote entries p q (suc k) = splice_kept (record kept { term = term; vote = vote }) entries p q k
 
   record Makes (n : Node) (turn : Turn) : Type 0 where
     pub after : P turn.node.log
-    pub safe : (stands : ℕ) → P (kept_after (kept_of n) (take stands turn.durable)).log
+    pub safe : (stands : ℕ) → P (persistent_after (persistent_of n) (take stands turn.records)).log
 
-  abbrev Standing : Stand → Type 0
-  Standing (Running n) = P n.log
-  Standing (Down kept rest) = (stands : ℕ) → P (kept_after kept (take stands rest)).log
+  abbrev Recovery : Stand → Type 0
+  Recovery (Running n) = P n.log
+  Recovery (Down kept rest) = (stands : ℕ) → P (persistent_after kept (take stands rest)).log
 
-  ended_makes : (f : Fate) (course : Course) (s : Server) (n : Node) (turn : Turn) (asked : List ℕ) → Makes n turn → Standing (ended f course s n turn asked).0.stand
+  ended_makes : (f : Fate) (course : Course) (s : Server) (n : Node) (turn : Turn) (asked : List ℕ) → Makes n turn → Recovery (ended f course s n turn asked).0.stand
   ended_makes Done course s n turn asked makes = makes.after
-  ended_makes Struck course s n turn asked makes = nothing_kept (kept_after (kept_of n) (take course.stands turn.durable)) (makes.safe course.stands)
+  ended_makes Struck course s n turn asked makes = nothing_persistent (persistent_after (persistent_of n) (take course.stands turn.records)) (makes.safe course.stands)
   ended_makes Failed course s n turn asked makes = makes.safe
 
-  quiet_makes : (n : Node) (turn : Turn) → turn.durable ≡ [] → n.log ≡ turn.node.log → P n.log → Makes n turn
-  quiet_makes n turn none same p = record {
+  unchanged_makes : (n : Node) (turn : Turn) → turn.records ≡ [] → n.log ≡ turn.node.log → P n.log → Makes n turn
+  unchanged_makes n turn none same p = record {
     after = subst P same p;
-    safe = subst (λ (l : List Durable). (stands : ℕ) → P (kept_after (kept_of n) (take stands l)).log) (sym none) (nothing_kept (kept_of n) p);
+    safe = subst (λ (l : List StoredRecord). (stands : ℕ) → P (persistent_after (persistent_of n) (take stands l)).log) (sym none) (nothing_persistent (persistent_of n) p);
   }
 
 -- ---- turns
@@ -114,15 +114,15 @@ module _ (book : List Note) (asks : ℕ) where
       longer : From (n.log ++ record { term = n.term + 1; content = content.NoOp } ∷ [])
       longer = noop_behind book 0 n.log (n.term + 1) asks from
 
-      at : (b : Bool) → Makes From n (if b then quiet n else led n)
-      at true = quiet_makes From n (quiet n) refl refl from
-      at false = record { after = longer; safe = vote_kept From (kept_of n) (n.term + 1) (Some n.id) (record { term = n.term + 1; content = content.NoOp } ∷ []) from longer }
+      at : (b : Bool) → Makes From n (if b then unchanged n else led n)
+      at true = unchanged_makes From n (unchanged n) refl refl from
+      at false = record { after = longer; safe = vote_kept From (persistent_of n) (n.term + 1) (Some n.id) (record { term = n.term + 1; content = content.NoOp } ∷ []) from longer }
 
   apply_makes : (n : Node) → From n.log → Makes From n (apply n)
-  apply_makes n from = quiet_makes From n (apply n) (apply_stores (n.commit - n.applied) (quiet n)) (apply_keeps_log (n.commit - n.applied) (quiet n)) from
+  apply_makes n from = unchanged_makes From n (apply n) (apply_stores (n.commit - n.applied) (unchanged n)) (apply_keeps_log (n.commit - n.applied) (unchanged n)) from
 
   says_makes : (n : Node) (number : ℕ) (say : Say) → From n.log → Makes From n (says n number say)
-  says_makes n number say from = quiet_makes From n (says n number say) refl refl from
+  says_makes n number say from = unchanged_makes From n (says n number say) refl refl from
 
 -- the ask behind the last one
 execute_makes : (book more : List Note) (asks : ℕ) (n : Node) (items : List Item) → op_of (book ++ more) (asks + 1) ≡ Some (Write items) → AreFromAsks book 0 n.log asks
@@ -137,7 +137,7 @@ execute_makes book more asks n items op from = at (is_leader n.role)
 
     sized : (b : Bool) → Makes (From (book ++ more) (asks + 1)) n (if b then says n (asks + 1) (EntryTooLarge (length (execute_bytes items))) else taken_up n (asks + 1) items)
     sized true = says_makes (book ++ more) (asks + 1) n (asks + 1) (EntryTooLarge (length (execute_bytes items))) before
-    sized false = record { after = longer; safe = splice_kept (From (book ++ more) (asks + 1)) (kept_of n) (record { term = n.term; content = content.Execute items } ∷ []) before longer }
+    sized false = record { after = longer; safe = splice_kept (From (book ++ more) (asks + 1)) (persistent_of n) (record { term = n.term; content = content.Execute items } ∷ []) before longer }
 
     at : (b : Bool) → Makes (From (book ++ more) (asks + 1)) n (if b then execute_sized n (asks + 1) items (length (execute_bytes items)) else says n (asks + 1) (NoLeader n.term))
     at true = sized (nat_lt most_bytes (length (execute_bytes items)))
@@ -147,7 +147,7 @@ execute_makes book more asks n items op from = at (is_leader n.role)
 
 stand_more : (book more : List Note) (asks next : ℕ) (stand : Stand) → asks ≤ next → IsAsked book asks stand → IsAsked (book ++ more) next stand
 stand_more book more asks next (Running n) le from = more_asked book more 0 n.log asks next le from
-stand_more book more asks next (Down kept rest) le from = λ stands. more_asked book more 0 (kept_after kept (take stands rest)).log asks next le (from stands)
+stand_more book more asks next (Down kept rest) le from = λ stands. more_asked book more 0 (persistent_after kept (take stands rest)).log asks next le (from stands)
 
 abbrev AskedAt : List Note → ℕ → Option Server → Type 0
 AskedAt book asks None = ⊤
@@ -184,20 +184,20 @@ server_makes book noted c id act from goes = at c.server from
     at None here = tt
     at (Some s) here = acted_makes (book ++ noted) c id s act (goes s s.stand here)
 
-is_asked : (book : List Note) (asks : ℕ) (stand : Stand) → Standing (From book asks) stand → IsAsked book asks stand
+is_asked : (book : List Note) (asks : ℕ) (stand : Stand) → Recovery (From book asks) stand → IsAsked book asks stand
 is_asked book asks (Running n) is = is
 is_asked book asks (Down kept rest) is = is
 
 elect_line : (book : List Note) (asks : ℕ) (course : Course) (s : Server) (stand : Stand) → IsAsked book asks stand → IsAsked (book ++ []) asks (happens_at course (record s { stand = stand }) elect []).0.stand
 elect_line book asks course s (Running n) from =
     is_asked (book ++ []) asks (happens_at course (record s { stand = Running n }) elect []).0.stand
-    (ended_makes (From (book ++ []) asks) (fate course s.armed (elect n).durable) course (record s { stand = Running n }) n (elect n) [] (elect_makes (book ++ []) asks n (more_asked book [] 0 n.log asks asks (omega arith) from)))
+    (ended_makes (From (book ++ []) asks) (fate course s.armed (elect n).records) course (record s { stand = Running n }) n (elect n) [] (elect_makes (book ++ []) asks n (more_asked book [] 0 n.log asks asks (omega arith) from)))
 elect_line book asks course s (Down kept rest) from = no_more book asks (Down kept rest) from
 
 apply_line : (book noted : List Note) (asks : ℕ) (course : Course) (s : Server) (stand : Stand) → IsAsked book asks stand → IsAsked (book ++ noted) asks (happens_at course (record s { stand = stand }) apply []).0.stand
 apply_line book noted asks course s (Running n) from =
     is_asked (book ++ noted) asks (happens_at course (record s { stand = Running n }) apply []).0.stand
-    (ended_makes (From (book ++ noted) asks) (fate course s.armed (apply n).durable) course (record s { stand = Running n }) n (apply n) [] (apply_makes (book ++ noted) asks n (more_asked book noted 0 n.log asks asks (omega arith) from)))
+    (ended_makes (From (book ++ noted) asks) (fate course s.armed (apply n).records) course (record s { stand = Running n }) n (apply n) [] (apply_makes (book ++ noted) asks n (more_asked book noted 0 n.log asks asks (omega arith) from)))
 apply_line book noted asks course s (Down kept rest) from = stand_more book noted asks asks (Down kept rest) (omega arith) from
 
 asked_line : (book noted : List Note) (c : Cluster) (course : Course) (id body : List ℕ) (rule : ℕ → List Item → Node → Turn) (items : List Item) → AskedAt book c.asks c.server
@@ -211,7 +211,7 @@ asked_line book noted c course id body rule items from turns = by (texts_of body
     goes : (s : Server) (stand : Stand) → IsAsked book c.asks stand → IsAsked (book ++ noted) (c.asks + 1) (happens_at course (record s { stand = stand }) (rule (c.asks + 1) items) ((c.asks + 1) ∷ [])).0.stand
     goes s (Running n) here =
         is_asked (book ++ noted) (c.asks + 1) (happens_at course (record s { stand = Running n }) (rule (c.asks + 1) items) ((c.asks + 1) ∷ [])).0.stand
-        (ended_makes (From (book ++ noted) (c.asks + 1)) (fate course s.armed (rule (c.asks + 1) items n).durable) course (record s { stand = Running n }) n (rule (c.asks + 1) items n) ((c.asks + 1) ∷ []) (turns n here))
+        (ended_makes (From (book ++ noted) (c.asks + 1)) (fate course s.armed (rule (c.asks + 1) items n).records) course (record s { stand = Running n }) n (rule (c.asks + 1) items n) ((c.asks + 1) ∷ []) (turns n here))
     goes s (Down kept rest) here = stand_more book noted c.asks (c.asks + 1) (Down kept rest) (omega arith) here
 
     at : (o : Option Server) → AskedAt book c.asks o → MayMake (book ++ noted) (event_at course (record counted { server = o }) id (rule (c.asks + 1) items) ((c.asks + 1) ∷ []))
@@ -222,18 +222,18 @@ asked_line book noted c course id body rule items from turns = by (texts_of body
     by None = tt
     by (Some texts) = at c.server from
 
-opens_line : (book : List Note) (asks : ℕ) (course : Course) (s : Server) (kept : Kept) (rest : List Durable) (fault : Fault) → IsAsked book asks (Down kept rest)
+opens_line : (book : List Note) (asks : ℕ) (course : Course) (s : Server) (kept : Persistent) (rest : List StoredRecord) (fault : Fault) → IsAsked book asks (Down kept rest)
     → IsAsked book asks (opens (record course { fault = fault }) (record s { stand = Down kept rest }) kept rest).0.stand
 opens_line book asks course s kept rest NoFault from = from course.stands
 opens_line book asks course s kept rest Reading from = from
 opens_line book asks course s kept rest Storing from =
-    boot_kept (From book asks) (kept_after kept (take course.stands rest)) ((kept_after kept (take course.stands rest)).boot + 1) (from course.stands)
+    boot_kept (From book asks) (persistent_after kept (take course.stands rest)) ((persistent_after kept (take course.stands rest)).boot + 1) (from course.stands)
 
 found_line : (book : List Note) (c : Cluster) (course : Course) (id : List ℕ) → MayMake (book ++ []) (founded course c id)
 found_line book c course id = at c.server
   where
     at : (o : Option Server) → MayMake (book ++ []) (founded course (record c { server = o }) id)
-    at None = opens_line (book ++ []) c.asks course (new_server id) first_kept [] course.fault (nothing_kept (From (book ++ []) c.asks) first_kept (omega arith))
+    at None = opens_line (book ++ []) c.asks course (new_server id) first_persistent [] course.fault (nothing_persistent (From (book ++ []) c.asks) first_persistent (omega arith))
     at (Some s) = tt
 
 start_line : (book : List Note) (asks : ℕ) (course : Course) (s : Server) (stand : Stand) → IsAsked book asks stand → ActMakes (book ++ []) asks (starts course (record s { stand = stand }))
@@ -241,7 +241,7 @@ start_line book asks course s (Running n) from = tt
 start_line book asks course s (Down kept rest) from = opens_line (book ++ []) asks course s kept rest course.fault (no_more book asks (Down kept rest) from)
 
 stop_line : (book : List Note) (asks : ℕ) (s : Server) (stand : Stand) → IsAsked book asks stand → ActMakes (book ++ []) asks (stops (record s { stand = stand }))
-stop_line book asks s (Running n) from = nothing_kept (From (book ++ []) asks) (kept_of n) (more_asked book [] 0 n.log asks asks (omega arith) from)
+stop_line book asks s (Running n) from = nothing_persistent (From (book ++ []) asks) (persistent_of n) (more_asked book [] 0 n.log asks asks (omega arith) from)
 stop_line book asks s (Down kept rest) from = tt
 
 arm_line : (book : List Note) (asks calls pick : ℕ) (s : Server) (stand : Stand) → IsAsked book asks stand → ActMakes (book ++ []) asks (arms calls pick (record s { stand = stand }))

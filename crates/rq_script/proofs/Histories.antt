@@ -12,11 +12,11 @@ use Rattle.rq_node.specs.declared.log_entry.LogEntry.{LogEntry}
 use Rattle.rq_node.specs.declared.log_entry.Content.{Content}
 use Rattle.rq_node.specs.declared.log_entry.Content.TheVariants.{NoOp, Execute}
 use Rattle.rq_node.specs.declared.waiting.Waiting.{Waiting}
-use Rattle.rq_node.specs.Node.{Node, Durable, Turn}
+use Rattle.rq_node.specs.Node.{Node, StoredRecord, Turn}
 use Rattle.rq_node.specs.Rules.{answered, left_waiting, applied_content, applied_entry, apply_next, apply_times}
 use Rattle.rq_script.specs.History.{Op, Write, Read, Note, Asked, Answered, at_place, applying}
 use Rattle.rq_script.specs.Promise.{database_after, replica, Begins, op_of, IsRight}
-use Rattle.rq_script.proofs.Fronts.{begins_get, begins_take_same, get_within, take_next, replayed_on}
+use Rattle.rq_script.proofs.Prefixes.{begins_get, begins_take_same, get_within, take_next, replayed_on}
 
 -- ---- notes
 
@@ -261,15 +261,15 @@ apply_all chosen book (suc k) turn stands covers bound =
     (rest.0, all_both chosen book (at_place (turn.node.applied + 1) next.answers) (applying k next.node) one.1 rest.1)
 
 -- nothing is made durable
-pub apply_stores : (k : ℕ) (turn : Turn) → (apply_times k turn).durable ≡ turn.durable
+pub apply_stores : (k : ℕ) (turn : Turn) → (apply_times k turn).records ≡ turn.records
 unfolding apply_times
 apply_stores zero turn = refl
-apply_stores (suc k) turn = apply_stores k (apply_next turn) ∙ (ap (λ (l : List Durable). turn.durable ++ l) (one (slice_get turn.node.log turn.node.applied)) ∙ append-nil turn.durable)
+apply_stores (suc k) turn = apply_stores k (apply_next turn) ∙ (ap (λ (l : List StoredRecord). turn.records ++ l) (one (slice_get turn.node.log turn.node.applied)) ∙ append-nil turn.records)
   where
-    of_content : (content : Content) → (applied_content turn.node (turn.node.applied + 1) content).durable ≡ []
+    of_content : (content : Content) → (applied_content turn.node (turn.node.applied + 1) content).records ≡ []
     of_content NoOp = refl
     of_content (Execute items) = refl
 
-    one : (entry : Option LogEntry) → (applied_entry turn.node entry).durable ≡ []
+    one : (entry : Option LogEntry) → (applied_entry turn.node entry).records ≡ []
     one None = refl
     one (Some entry) = of_content entry.content

@@ -1,11 +1,11 @@
 mod Answering
 mod Digits
 mod FromAsks
-mod Fronts
+mod Prefixes
 mod Histories
 mod Moments
 mod Numbering
 mod OpenAsks
 mod Places
 mod Promises
-mod Tellings
+mod Writings

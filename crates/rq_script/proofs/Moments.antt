@@ -15,14 +15,14 @@ use Rattle.rq_node.specs.declared.role.Role.{Role}
 use Rattle.rq_node.specs.declared.role.Role.TheVariants.{Leader}
 use Rattle.rq_node.specs.declared.waiting.Waiting.{Waiting}
 use Rattle.rq_node.specs.Sound.{most_bytes}
-use Rattle.rq_node.specs.Node.{Node, Kept, Durable, Vote, Splice, Boot, Turn, kept_of, kept_after, quiet, says}
+use Rattle.rq_node.specs.Node.{Node, Persistent, StoredRecord, Vote, Splice, Boot, Turn, persistent_of, persistent_after, unchanged, says}
 use Rattle.rq_node.specs.Rules.{is_leader, entry_in, risen, led, elect, taken_up, execute_sized, execute, query, apply, started}
-use Rattle.rq_node.specs.Files.{first_kept}
+use Rattle.rq_node.specs.Files.{first_persistent}
 use Rattle.rq_script.specs.ScriptLine.{Line, Skip, Cluster as ClusterLine, Elect, Apply, Execute, Query, Stop, StopWithin, Start, Show}
 use Rattle.rq_script.specs.Cluster.{Stand, Running, Down, Server, Cluster, Written, new_server, Fault, NoFault, Reading, Storing, Course, Fate, Done, Struck, Failed, fate, gone_down, ended, happens, happens_at, opens, starts, stops, arms, shown, at_server, event_at, ask_at, founded, done}
 use Rattle.rq_script.specs.History.{Op, Write, Read, Note, Asked, Answered, History, said_by, said, applying, node_at, node_in, asking, applying_at, notes, chosen_with}
 use Rattle.rq_script.specs.Promise.{replica, Begins, op_of, IsRight, IsKept, Grows}
-use Rattle.rq_script.proofs.Fronts.{begins_same, begins_on, begins_more, begins_take_same, get_last, longest}
+use Rattle.rq_script.proofs.Prefixes.{begins_same, begins_on, begins_more, begins_take_same, get_last, longest}
 use Rattle.rq_script.proofs.Histories.{AllRight, all_both, all_more, all_chosen, op_behind, applying_asks_nothing, Waits, AllWait, wait_more, wait_both, Stands, apply_all, apply_stores}
 
 -- a server's stand fits what was chosen and noted
@@ -83,7 +83,7 @@ goes_on h c more s n noted stands =
     (record { grown = both.inside; inside = stands.inside; within = stands.within; database = stands.database; waiting = stands.waiting }, both.covers)
 
 -- it is down
-goes_down : (h : History) (c : Cluster) (more : List Note) (s : Server) (kept : Kept) (rest : List Durable) → NotesFit h more c.asks → IsKept h.chosen (Down kept rest)
+goes_down : (h : History) (c : Cluster) (more : List Note) (s : Server) (kept : Persistent) (rest : List StoredRecord) → NotesFit h more c.asks → IsKept h.chosen (Down kept rest)
     → Goes h more (record c { server = Some (record s { stand = Down kept rest }) })
 goes_down h c more s kept rest noted safe = ends h more (record c { server = Some (record s { stand = Down kept rest }) }) noted (begins_same h.chosen) safe
 
@@ -109,11 +109,11 @@ nothing h c sound = (sound.right, tt, λ number above. op_behind h.book [] numbe
 
 -- ---- what is kept
 
-keeps_nothing_more : (chosen : List LogEntry) (kept : Kept) → Begins chosen kept.log → IsKept chosen (Down kept [])
+keeps_nothing_more : (chosen : List LogEntry) (kept : Persistent) → Begins chosen kept.log → IsKept chosen (Down kept [])
 keeps_nothing_more chosen kept begins zero = begins
 keeps_nothing_more chosen kept begins (suc k) = begins
 
-keeps_boot : (chosen : List LogEntry) (kept : Kept) (boot : ℕ) → Begins chosen kept.log → IsKept chosen (Down kept (Boot boot ∷ []))
+keeps_boot : (chosen : List LogEntry) (kept : Persistent) (boot : ℕ) → Begins chosen kept.log → IsKept chosen (Down kept (Boot boot ∷ []))
 keeps_boot chosen kept boot begins zero = begins
 keeps_boot chosen kept boot begins (suc zero) = begins
 keeps_boot chosen kept boot begins (suc (suc k)) = begins
@@ -124,12 +124,12 @@ spliced chosen log entries begins =
     subst (λ (l : List LogEntry). Begins chosen (l ++ entries)) (sym (take_all (length log + 1 - 1) log (omega arith)))
     (begins_on chosen log (log ++ entries) begins (begins_more log entries))
 
-keeps_splice : (chosen : List LogEntry) (kept : Kept) (entries : List LogEntry) → Begins chosen kept.log → IsKept chosen (Down kept (Splice (length kept.log + 1) entries ∷ []))
+keeps_splice : (chosen : List LogEntry) (kept : Persistent) (entries : List LogEntry) → Begins chosen kept.log → IsKept chosen (Down kept (Splice (length kept.log + 1) entries ∷ []))
 keeps_splice chosen kept entries begins zero = begins
 keeps_splice chosen kept entries begins (suc zero) = spliced chosen kept.log entries begins
 keeps_splice chosen kept entries begins (suc (suc k)) = spliced chosen kept.log entries begins
 
-keeps_vote : (chosen : List LogEntry) (kept : Kept) (term : ℕ) (vote : Option (List ℕ)) (entries : List LogEntry) → Begins chosen kept.log
+keeps_vote : (chosen : List LogEntry) (kept : Persistent) (term : ℕ) (vote : Option (List ℕ)) (entries : List LogEntry) → Begins chosen kept.log
     → IsKept chosen (Down kept (Vote term vote ∷ Splice (length kept.log + 1) entries ∷ []))
 keeps_vote chosen kept term vote entries begins zero = begins
 keeps_vote chosen kept term vote entries begins (suc k) = keeps_splice chosen (record kept { term = term; vote = vote }) entries begins k
@@ -139,19 +139,19 @@ keeps_vote chosen kept term vote entries begins (suc k) = keeps_splice chosen (r
 -- where a turn leads, and what may be kept where it is broken off
 pub record Leads (h : History) (more : List Note) (n : Node) (turn : Turn) : Type 0 where
   pub stands : Stands h.chosen (h.book ++ more) turn.node
-  pub safe : IsKept h.chosen (Down (kept_of n) turn.durable)
+  pub safe : IsKept h.chosen (Down (persistent_of n) turn.records)
 
 turn_good : (h : History) (c : Cluster) (s : Server) (n : Node) (course : Course) (turn : Turn) (asked : List ℕ) (more : List Note) → NotesFit h more c.asks → Leads h more n turn
     → (f : Fate) → Goes h more (record c { server = Some (ended f course s n turn asked).0 })
 turn_good h c s n course turn asked more noted leads Done = goes_on h c more (ended Done course s n turn asked).0 turn.node noted leads.stands
 turn_good h c s n course turn asked more noted leads Struck =
-    goes_down h c more (ended Struck course s n turn asked).0 (kept_after (kept_of n) (take course.stands turn.durable)) [] noted
-    (keeps_nothing_more h.chosen (kept_after (kept_of n) (take course.stands turn.durable)) (leads.safe course.stands))
-turn_good h c s n course turn asked more noted leads Failed = goes_down h c more (ended Failed course s n turn asked).0 (kept_of n) turn.durable noted leads.safe
+    goes_down h c more (ended Struck course s n turn asked).0 (persistent_after (persistent_of n) (take course.stands turn.records)) [] noted
+    (keeps_nothing_more h.chosen (persistent_after (persistent_of n) (take course.stands turn.records)) (leads.safe course.stands))
+turn_good h c s n course turn asked more noted leads Failed = goes_down h c more (ended Failed course s n turn asked).0 (persistent_of n) turn.records noted leads.safe
 
 -- a turn that only answers, or does nothing
-quiet_leads : (h : History) (more : List Note) (n : Node) → Stands h.chosen h.book n → Leads h more n (quiet n)
-quiet_leads h more n stands = record { stands = still h more n stands; safe = keeps_nothing_more h.chosen (kept_of n) stands.grown }
+unchanged_leads : (h : History) (more : List Note) (n : Node) → Stands h.chosen h.book n → Leads h more n (unchanged n)
+unchanged_leads h more n stands = record { stands = still h more n stands; safe = keeps_nothing_more h.chosen (persistent_of n) stands.grown }
 
 -- an entry more, which is committed at once
 appended_stands : (h : History) (more : List Note) (n : Node) (entry : LogEntry) (waiting : List Waiting) → Stands h.chosen h.book n → AllWait (h.book ++ more) (n.log ++ entry ∷ []) waiting
@@ -211,18 +211,18 @@ elect_leads h n stands = at (is_leader n.role || (n.term == 2 ^ 64 - 1))
     lead : Leads h [] n (led n)
     lead = record {
       stands = appended_stands h [] n entry n.waiting stands (wait_more h.book [] n.log (n.log ++ entry ∷ []) n.waiting (begins_more n.log (entry ∷ [])) stands.waiting) (n.term + 1) (Some n.id) Leader;
-      safe = keeps_vote h.chosen (kept_of n) (n.term + 1) (Some n.id) (entry ∷ []) stands.grown;
+      safe = keeps_vote h.chosen (persistent_of n) (n.term + 1) (Some n.id) (entry ∷ []) stands.grown;
     }
 
-    at : (b : Bool) → Leads h [] n (if b then quiet n else led n)
-    at true = quiet_leads h [] n stands
+    at : (b : Bool) → Leads h [] n (if b then unchanged n else led n)
+    at true = unchanged_leads h [] n stands
     at false = lead
 
 elect_good : (h : History) (c : Cluster) (course : Course) (s : Server) (stand : Stand) → Sound h (record c { server = Some (record s { stand = stand }) })
     → Goes h [] (record c { server = Some (happens_at course (record s { stand = stand }) elect []).0 })
 elect_good h c course s (Running n) sound =
     turn_good h c (record s { stand = Running n }) n course (elect n) [] [] (nothing h (record c { server = Some (record s { stand = Running n }) }) sound)
-    (elect_leads h n sound.fits.0) (fate course s.armed (elect n).durable)
+    (elect_leads h n sound.fits.0) (fate course s.armed (elect n).records)
 elect_good h c course s (Down kept rest) sound =
     goes_down h c [] (happens_at course (record s { stand = Down kept rest }) elect []).0 kept rest (nothing h (record c { server = Some (record s { stand = Down kept rest }) }) sound) sound.fits
 
@@ -231,7 +231,7 @@ apply_good : (h : History) (c : Cluster) (course : Course) (s : Server) (stand :
 apply_good h c course s (Down kept rest) sound =
     goes_down h c [] (happens_at course (record s { stand = Down kept rest }) apply []).0 kept rest (nothing h (record c { server = Some (record s { stand = Down kept rest }) }) sound) sound.fits
 apply_good h c course s (Running n) sound =
-    turn_good h c (record s { stand = Running n }) n course (apply n) [] noted (sound.right, both.1, fresh) leads (fate course s.armed (apply n).durable)
+    turn_good h c (record s { stand = Running n }) n course (apply n) [] noted (sound.right, both.1, fresh) leads (fate course s.armed (apply n).records)
   where
     noted : List Note
     noted = applying (n.commit - n.applied) n
@@ -243,13 +243,13 @@ apply_good h c course s (Running n) sound =
     bound = let e = sound.fits.0.within in omega (arith, e)
 
     both : Stands h.chosen (h.book ++ noted) (apply n).node × AllRight h.chosen (h.book ++ noted) noted
-    both = apply_all h.chosen (h.book ++ noted) (n.commit - n.applied) (quiet n) (still h noted n sound.fits.0) sound.fits.1 bound
+    both = apply_all h.chosen (h.book ++ noted) (n.commit - n.applied) (unchanged n) (still h noted n sound.fits.0) sound.fits.1 bound
 
     leads : Leads h noted n (apply n)
     leads = record {
       stands = both.0;
-      safe = subst (λ (l : List Durable). IsKept h.chosen (Down (kept_of n) l)) (sym (apply_stores (n.commit - n.applied) (quiet n)))
-          (keeps_nothing_more h.chosen (kept_of n) sound.fits.0.grown);
+      safe = subst (λ (l : List StoredRecord). IsKept h.chosen (Down (persistent_of n) l)) (sym (apply_stores (n.commit - n.applied) (unchanged n)))
+          (keeps_nothing_more h.chosen (persistent_of n) sound.fits.0.grown);
     }
 
 -- an ask whose number is new
@@ -297,7 +297,7 @@ module _ (h : History) (asks : ℕ) (right : AllRight h.chosen h.book h.book) (f
   taken_leads : (n : Node) (items : List Item) → op ≡ Write items → Stands h.chosen h.book n → Leads h (noted []) n (taken_up n (asks + 1) items)
   taken_leads n items is stands = record {
     stands = appended_stands h (noted []) n entry (n.waiting ++ w ∷ []) stands all n.term n.vote n.role;
-    safe = keeps_splice h.chosen (kept_of n) (entry ∷ []) stands.grown;
+    safe = keeps_splice h.chosen (persistent_of n) (entry ∷ []) stands.grown;
   }
     where
       entry : LogEntry
@@ -330,10 +330,10 @@ module _ (h : History) (asks : ℕ) (right : AllRight h.chosen h.book h.book) (f
       subst (λ (t : Turn). Goes h (noted (said course s.armed t n.applied)) (record c { server = Some (happens course s n t ((asks + 1) ∷ [])).0 })) (sym goes)
       (turn_good h c s n course (says n (asks + 1) say) ((asks + 1) ∷ []) (noted (Answered (asks + 1) say n.applied ∷ []))
       (subst (NotesFit h (noted (Answered (asks + 1) say n.applied ∷ []))) (sym counted) (noted_said say n.applied is))
-      (record { stands = still h (noted (Answered (asks + 1) say n.applied ∷ [])) n stands; safe = keeps_nothing_more h.chosen (kept_of n) stands.grown }) Done)
+      (record { stands = still h (noted (Answered (asks + 1) say n.applied ∷ [])) n stands; safe = keeps_nothing_more h.chosen (persistent_of n) stands.grown }) Done)
   asked_turn c course s n turn counted stands (takes items is goes) =
       subst (λ (t : Turn). Goes h (noted (said course s.armed t n.applied)) (record c { server = Some (happens course s n t ((asks + 1) ∷ [])).0 })) (sym goes)
-      (at (fate course s.armed (taken_up n (asks + 1) items).durable))
+      (at (fate course s.armed (taken_up n (asks + 1) items).records))
     where
       at : (f : Fate) → Goes h (noted (said_by f (taken_up n (asks + 1) items) n.applied)) (record c { server = Some (ended f course s n (taken_up n (asks + 1) items) ((asks + 1) ∷ [])).0 })
       at f =
@@ -392,23 +392,23 @@ ask_good h c course id body rule items op sound asks = by (texts_of body)
     by (Some texts) = there c.server sound
 
 -- the files are opened
-opens_good : (h : History) (c : Cluster) (s : Server) (kept : Kept) (rest : List Durable) (course : Course) (fault : Fault) → NotesFit h [] c.asks → IsKept h.chosen (Down kept rest)
+opens_good : (h : History) (c : Cluster) (s : Server) (kept : Persistent) (rest : List StoredRecord) (course : Course) (fault : Fault) → NotesFit h [] c.asks → IsKept h.chosen (Down kept rest)
     → Goes h [] (record c { server = Some (opens (record course { fault = fault }) (record s { stand = Down kept rest }) kept rest).0 })
 opens_good h c s kept rest course NoFault noted safe =
-    goes_on h c [] s (started s.id (kept_after kept (take course.stands rest))).node noted
+    goes_on h c [] s (started s.id (persistent_after kept (take course.stands rest))).node noted
     (record { grown = safe course.stands; inside = omega arith; within = omega arith; database = refl; waiting = tt })
 opens_good h c s kept rest course Reading noted safe = goes_down h c [] (record s { failures = s.failures + 1 }) kept rest noted safe
 opens_good h c s kept rest course Storing noted safe =
-    goes_down h c [] (record s { failures = s.failures + 1 }) (kept_after kept (take course.stands rest)) (started s.id (kept_after kept (take course.stands rest))).durable noted
-    (keeps_boot h.chosen (kept_after kept (take course.stands rest)) ((kept_after kept (take course.stands rest)).boot + 1) (safe course.stands))
+    goes_down h c [] (record s { failures = s.failures + 1 }) (persistent_after kept (take course.stands rest)) (started s.id (persistent_after kept (take course.stands rest))).records noted
+    (keeps_boot h.chosen (persistent_after kept (take course.stands rest)) ((persistent_after kept (take course.stands rest)).boot + 1) (safe course.stands))
 
 found_good : (h : History) (c : Cluster) (course : Course) (id : List ℕ) → Sound h c → MayGo h [] (founded course c id)
 found_good h c course id sound = at c.server sound
   where
     at : (o : Option Server) → Sound h (record c { server = o }) → MayGo h [] (founded course (record c { server = o }) id)
     at None here =
-        opens_good h c (new_server id) first_kept [] course course.fault (nothing h (record c { server = None }) here)
-        (keeps_nothing_more h.chosen first_kept (subst (λ (l : List LogEntry). Begins l []) (sym here.fits) (begins_same [])))
+        opens_good h c (new_server id) first_persistent [] course course.fault (nothing h (record c { server = None }) here)
+        (keeps_nothing_more h.chosen first_persistent (subst (λ (l : List LogEntry). Begins l []) (sym here.fits) (begins_same [])))
     at (Some s) here = tt
 
 start_good : (h : History) (c : Cluster) (course : Course) (s : Server) (stand : Stand) → Sound h (record c { server = Some (record s { stand = stand }) })
@@ -420,8 +420,8 @@ start_good h c course s (Down kept rest) sound =
 stop_good : (h : History) (c : Cluster) (s : Server) (stand : Stand) → Sound h (record c { server = Some (record s { stand = stand }) })
     → MayAct h c [] (stops (record s { stand = stand }))
 stop_good h c s (Running n) sound =
-    goes_down h c [] (gone_down (record s { stand = Running n }) n (kept_of n) [] []) (kept_of n) [] (nothing h (record c { server = Some (record s { stand = Running n }) }) sound)
-    (keeps_nothing_more h.chosen (kept_of n) sound.fits.0.grown)
+    goes_down h c [] (gone_down (record s { stand = Running n }) n (persistent_of n) [] []) (persistent_of n) [] (nothing h (record c { server = Some (record s { stand = Running n }) }) sound)
+    (keeps_nothing_more h.chosen (persistent_of n) sound.fits.0.grown)
 stop_good h c s (Down kept rest) sound = tt
 
 arm_good : (h : History) (c : Cluster) (calls pick : ℕ) (s : Server) (stand : Stand) → Sound h (record c { server = Some (record s { stand = stand }) })

@@ -41,7 +41,7 @@ says_by a Struck turn place = refl
 says_by a Failed turn place = refl
 
 says_at : (a : ℕ) (course : Course) (armed : Option Armed) (rule : Node → Turn) (stand : Stand) → AreNumbered a (said_at course armed rule stand) a
-says_at a course armed rule (Running n) = says_by a (fate course armed (rule n).durable) (rule n) n.applied
+says_at a course armed rule (Running n) = says_by a (fate course armed (rule n).records) (rule n) n.applied
 says_at a course armed rule (Down kept rest) = refl
 
 asks : (a : ℕ) (course : Course) (o : Option Server) (op : Op) (rule : Node → Turn) → AreNumbered a (asking course o (a + 1) op rule) (a + 1)

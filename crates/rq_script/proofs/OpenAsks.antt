@@ -14,10 +14,10 @@ use Rattle.rq_node.specs.declared.log_entry.LogEntry.{LogEntry}
 use Rattle.rq_node.specs.declared.log_entry.Content.{Content}
 use Rattle.rq_node.specs.declared.log_entry.Content.TheVariants as content
 use Rattle.rq_node.specs.declared.waiting.Waiting.{Waiting}
-use Rattle.rq_node.specs.Node.{Node, Kept, Durable, Turn, quiet, says}
+use Rattle.rq_node.specs.Node.{Node, Persistent, StoredRecord, Turn, unchanged, says}
 use Rattle.rq_node.specs.Rules.{is_leader, led, elect, taken_up, execute_sized, answered, left_waiting, applied_content, applied_entry, apply_next, apply_times, execute, query, apply}
 use Rattle.rq_node.specs.Sound.{most_bytes}
-use Rattle.rq_node.specs.Files.{first_kept}
+use Rattle.rq_node.specs.Files.{first_persistent}
 use Rattle.rq_script.specs.ScriptLine.{Line, Skip, Cluster as ClusterLine, Elect, Apply, Execute, Query, Stop, StopWithin, Start, Show, line_of}
 use Rattle.rq_script.specs.Cluster.{Stand, Running, Down, Server, Cluster, Written, new_server, Fault, NoFault, Reading, Storing, Course, Fate, Done, Struck, Failed, fate, numbers, ended, happens, happens_at, opens, starts, stops, arms, shown, at_server, event_at, ask_at, founded, done, step, waiting_at, unanswered}
 use Rattle.rq_script.specs.Runs.{Runs}
@@ -28,7 +28,7 @@ use Rattle.rq_script.proofs.Histories.{apply_stores}
 opens_both : (a b c : List ℕ) (one two : List Note) → Opens a one b → Opens b two c → Opens a (one ++ two) c
 opens_both a b c [] two first second = subst (λ (l : List ℕ). Opens l two c) (sym first) second
 opens_both a b c (Asked number op ∷ one) two first second = opens_both (a ++ number ∷ []) b c one two first second
-opens_both a b c (Answered number say place ∷ one) two (front, rest, is, first) second = (front, rest, is, opens_both (front ++ rest) b c one two first second)
+opens_both a b c (Answered number say place ∷ one) two (prefix, rest, is, first) second = (prefix, rest, is, opens_both (prefix ++ rest) b c one two first second)
 
 -- ---- lists of numbers
 
@@ -83,7 +83,7 @@ ActOpens s noted (Some t) = Opens (unanswered (Some s)) noted (unanswered (Some 
 elect_waits : (n : Node) → n.waiting ≡ (elect n).node.waiting
 elect_waits n = at (is_leader n.role || (n.term == 2 ^ 64 - 1))
   where
-    at : (b : Bool) → n.waiting ≡ (if b then quiet n else led n).node.waiting
+    at : (b : Bool) → n.waiting ≡ (if b then unchanged n else led n).node.waiting
     at true = refl
     at false = refl
 
@@ -93,15 +93,15 @@ elect_ends Struck course s n = all_lost s.lost (numbers n.waiting)
 elect_ends Failed course s n = all_lost s.lost (numbers n.waiting)
 
 elect_opens : (course : Course) (s : Server) (stand : Stand) → Opens (s.lost ++ waiting_at stand) [] (unanswered (Some (happens_at course (record s { stand = stand }) elect []).0))
-elect_opens course s (Running n) = elect_ends (fate course s.armed (elect n).durable) course (record s { stand = Running n }) n
+elect_opens course s (Running n) = elect_ends (fate course s.armed (elect n).records) course (record s { stand = Running n }) n
 elect_opens course s (Down kept rest) = ap (λ (l : List ℕ). l ++ []) (sym (append-nil s.lost))
 
 apply_opens : (course : Course) (s : Server) (stand : Stand) → Opens (s.lost ++ waiting_at stand) (applying_at (node_at stand)) (unanswered (Some (happens_at course (record s { stand = stand }) apply []).0))
 apply_opens course s (Down kept rest) = ap (λ (l : List ℕ). l ++ []) (sym (append-nil s.lost))
 apply_opens course s (Running n) =
-    subst (λ (l : List Durable). Opens (s.lost ++ numbers n.waiting) (applying (n.commit - n.applied) n) (unanswered (Some (ended (fate course s.armed l) course (record s { stand = Running n }) n (apply n) []).0)))
-    (sym (apply_stores (n.commit - n.applied) (quiet n)))
-    (applying_opens (n.commit - n.applied) s.lost (quiet n))
+    subst (λ (l : List StoredRecord). Opens (s.lost ++ numbers n.waiting) (applying (n.commit - n.applied) n) (unanswered (Some (ended (fate course s.armed l) course (record s { stand = Running n }) n (apply n) []).0)))
+    (sym (apply_stores (n.commit - n.applied) (unchanged n)))
+    (applying_opens (n.commit - n.applied) s.lost (unchanged n))
 
 -- how the rule of an ask goes at a node
 data AskTurn (n : Node) (number : ℕ) (turn : Turn) : Type 0 where
@@ -133,7 +133,7 @@ ask_runs course s n number op turn (says_now say is) =
     (s.lost ++ numbers n.waiting, [], refl, append-nil (s.lost ++ numbers n.waiting))
 ask_runs course s n number op turn (takes items is) =
     subst (λ (t : Turn). Opens (s.lost ++ numbers n.waiting) (Asked number op ∷ said course s.armed t n.applied) (unanswered (Some (happens course s n t (number ∷ [])).0))) (sym is)
-    (taken_ends (fate course s.armed (taken_up n number items).durable) course s n number items)
+    (taken_ends (fate course s.armed (taken_up n number items).records) course s n number items)
 
 ask_opens : (course : Course) (s : Server) (stand : Stand) (number : ℕ) (op : Op) (rule : Node → Turn) → ((n : Node) → AskTurn n number (rule n))
     → Opens (s.lost ++ waiting_at stand) (asking course (Some (record s { stand = stand })) number op rule) (unanswered (Some (happens_at course (record s { stand = stand }) rule (number ∷ [])).0))
@@ -173,7 +173,7 @@ asked_opens c course id body rule items op turns = by (texts_of body)
     by (Some texts) = server_opens (record c { asks = c.asks + 1 }) id (λ s. Some (happens_at course s (rule (c.asks + 1) items) ((c.asks + 1) ∷ [])))
         (λ o. asking course o (c.asks + 1) op (rule (c.asks + 1) items)) (λ s stand. ask_opens course s stand (c.asks + 1) op (rule (c.asks + 1) items) turns)
 
-starts_opens : (course : Course) (s : Server) (kept : Kept) (rest : List Durable) (fault : Fault)
+starts_opens : (course : Course) (s : Server) (kept : Persistent) (rest : List StoredRecord) (fault : Fault)
     → Opens (s.lost ++ []) [] (unanswered (Some (opens (record course { fault = fault }) (record s { stand = Down kept rest }) kept rest).0))
 starts_opens course s kept rest NoFault = refl
 starts_opens course s kept rest Reading = refl
@@ -183,7 +183,7 @@ found_opens : (c : Cluster) (course : Course) (id : List ℕ) → MayOpen c.serv
 found_opens c course id = at c.server
   where
     at : (o : Option Server) → MayOpen o [] (founded course (record c { server = o }) id)
-    at None = starts_opens course (new_server id) first_kept [] course.fault
+    at None = starts_opens course (new_server id) first_persistent [] course.fault
     at (Some s) = tt
 
 start_opens : (course : Course) (s : Server) (stand : Stand) → ActOpens (record s { stand = stand }) [] (starts course (record s { stand = stand }))

@@ -15,14 +15,14 @@ use Rattle.rq_node.specs.declared.log_entry.Content.{Content}
 use Rattle.rq_node.specs.declared.log_entry.Content.TheVariants as content
 use Rattle.rq_node.specs.declared.waiting.Waiting.{Waiting}
 use Rattle.rq_node.specs.Sound.{most_bytes}
-use Rattle.rq_node.specs.Node.{Node, Kept, Durable, Turn, kept_after, quiet, says}
+use Rattle.rq_node.specs.Node.{Node, Persistent, StoredRecord, Turn, persistent_after, unchanged, says}
 use Rattle.rq_node.specs.Rules.{is_leader, entry_in, risen, led, elect, waits, taken_up, execute_sized, execute, query, applied_content, applied_entry, apply_next, apply_times, apply}
-use Rattle.rq_node.specs.Files.{first_kept}
+use Rattle.rq_node.specs.Files.{first_persistent}
 use Rattle.rq_script.specs.ScriptLine.{Line, Skip, Cluster as ClusterLine, Elect, Apply, Execute, Query, Stop, StopWithin, Start, Show, line_of}
 use Rattle.rq_script.specs.Cluster.{Stand, Running, Down, Server, Cluster, Written, new_server, Fault, NoFault, Reading, Storing, Course, Fate, Done, Struck, Failed, fate, ended, happens, happens_at, opens, starts, stops, arms, shown, at_server, event_at, ask_at, founded, done, step}
 use Rattle.rq_script.specs.History.{Op, Write, Read, Note, Asked, Answered, History, at_place, said_by, said, applying, node_at, asking, applying_at, notes, notes_of}
 use Rattle.rq_script.specs.Promise.{op_of}
-use Rattle.rq_script.proofs.Fronts.{begins_length}
+use Rattle.rq_script.proofs.Prefixes.{begins_length}
 use Rattle.rq_script.proofs.Histories.{AllRight, right_op, op_kept, op_behind}
 use Rattle.rq_script.proofs.Moments.{Fits, FitsAt, Sound, same_number}
 
@@ -163,7 +163,7 @@ module _ (book : List Note) (low most : ℕ) (n : Node) (within : low ≤ most) 
       turn : Bool → Turn
       turn b = record {
         node = record n { applied = n.applied + 1; database = (executed n.database items).0; waiting = if b then ws else w ∷ ws };
-        durable = [];
+        records = [];
         answers = if b then record { number = w.number; say = Results (executed n.database items).1 } ∷ [] else [];
       }
 
@@ -236,7 +236,7 @@ elect_rises low n rises = at (is_leader n.role || (n.term == 2 ^ 64 - 1))
     entry : LogEntry
     entry = entry_in (risen n) content.NoOp
 
-    at : (b : Bool) → Rises low (if b then quiet n else led n).node.waiting (length (if b then quiet n else led n).node.log)
+    at : (b : Bool) → Rises low (if b then unchanged n else led n).node.waiting (length (if b then unchanged n else led n).node.log)
     at true = rises
     at false = rises_more n.waiting low (length n.log) (length (n.log ++ entry ∷ [])) (let e = length-append n.log (entry ∷ []) in omega (arith, e)) rises
 
@@ -256,7 +256,7 @@ module _ (h : History) (low : ℕ) (within : low ≤ length h.chosen) where
   elect_climbs : (course : Course) (s : Server) (stand : Stand) → Above low stand → ActClimbs [] (Some (happens_at course (record s { stand = stand }) elect []))
   elect_climbs course s (Running n) above =
       unmoved (Some (happens course (record s { stand = Running n }) n (elect n) []).0)
-      (ended_above low (fate course s.armed (elect n).durable) course (record s { stand = Running n }) n (elect n) [] (elect_rises low n above))
+      (ended_above low (fate course s.armed (elect n).records) course (record s { stand = Running n }) n (elect n) [] (elect_rises low n above))
   elect_climbs course s (Down kept rest) above = unmoved (Some (happens_at course (record s { stand = Down kept rest }) elect []).0) tt
 
   apply_climbs : (course : Course) (s : Server) (stand : Stand) → Fits h.chosen h.book stand → Above low stand
@@ -266,12 +266,12 @@ module _ (h : History) (low : ℕ) (within : low ≤ length h.chosen) where
       let was_within : n.applied ≤ n.commit = fits.0.within in
       let covers : n.commit ≤ length h.chosen = fits.1 in
       let noted = applying (n.commit - n.applied) n in
-      let leaves = applying_climbs (h.book ++ noted) (length h.chosen) (n.commit - n.applied) (quiet n) low within (omega (arith, was_within, covers)) above in
+      let leaves = applying_climbs (h.book ++ noted) (length h.chosen) (n.commit - n.applied) (unchanged n) low within (omega (arith, was_within, covers)) above in
       record {
         mark = leaves.mark;
         climbs = leaves.climbs;
         within = leaves.within;
-        above = ended_above leaves.mark (fate course s.armed (apply n).durable) course (record s { stand = Running n }) n (apply n) [] leaves.rises;
+        above = ended_above leaves.mark (fate course s.armed (apply n).records) course (record s { stand = Running n }) n (apply n) [] leaves.rises;
       }
 
   -- a turn of an ask, with what is noted of it
@@ -290,7 +290,7 @@ module _ (h : History) (low : ℕ) (within : low ≤ length h.chosen) where
   }
 
   taken_climbs : (course : Course) (s : Server) (n : Node) (number : ℕ) (op : Op) (items : List Item) → Rises low n.waiting (length n.log) → Asks course s n number op (taken_up n number items)
-  taken_climbs course s n number op items rises = at (fate course s.armed (taken_up n number items).durable)
+  taken_climbs course s n number op items rises = at (fate course s.armed (taken_up n number items).records)
     where
       entry : LogEntry
       entry = entry_in (waits n number) (content.Execute items)
@@ -364,7 +364,7 @@ module _ (h : History) (low : ℕ) (within : low ≤ length h.chosen) where
           (λ o. asking course o (c.asks + 1) op (rule (c.asks + 1) items)) fits above at
 
   -- the log that a start shows has all that was chosen
-  opens_climbs : (course : Course) (s : Server) (kept : Kept) (rest : List Durable) (fault : Fault) → ((stands : ℕ) → low ≤ length (kept_after kept (take stands rest)).log)
+  opens_climbs : (course : Course) (s : Server) (kept : Persistent) (rest : List StoredRecord) (fault : Fault) → ((stands : ℕ) → low ≤ length (persistent_after kept (take stands rest)).log)
       → ActClimbs [] (Some (opens (record course { fault = fault }) (record s { stand = Down kept rest }) kept rest))
   opens_climbs course s kept rest NoFault covers = unmoved (Some (opens (record course { fault = NoFault }) (record s { stand = Down kept rest }) kept rest).0) (covers course.stands)
   opens_climbs course s kept rest Reading covers = unmoved (Some (opens (record course { fault = Reading }) (record s { stand = Down kept rest }) kept rest).0) tt
@@ -374,14 +374,14 @@ module _ (h : History) (low : ℕ) (within : low ≤ length h.chosen) where
   found_climbs c course id fits = at c.server fits
     where
       at : (o : Option Server) → FitsAt h.chosen h.book o → MayClimb [] (founded course (record c { server = o }) id)
-      at None none = opens_climbs course (new_server id) first_kept [] course.fault (λ stands. (let empty = ap length none in omega (arith, empty, within)))
+      at None none = opens_climbs course (new_server id) first_persistent [] course.fault (λ stands. (let empty = ap length none in omega (arith, empty, within)))
       at (Some s) fit = tt
 
   start_climbs : (course : Course) (s : Server) (stand : Stand) → Fits h.chosen h.book stand → Above low stand → ActClimbs [] (starts course (record s { stand = stand }))
   start_climbs course s (Running n) fits above = tt
   start_climbs course s (Down kept rest) fits above =
       opens_climbs course s kept rest course.fault
-      (λ stands. (let covers = begins_length h.chosen (kept_after kept (take stands rest)).log (fits stands) in omega (arith, covers, within)))
+      (λ stands. (let covers = begins_length h.chosen (persistent_after kept (take stands rest)).log (fits stands) in omega (arith, covers, within)))
 
   stop_climbs : (s : Server) (stand : Stand) → Fits h.chosen h.book stand → Above low stand → ActClimbs [] (stops (record s { stand = stand }))
   stop_climbs s (Running n) fits above = record { mark = low; climbs = omega arith; within = within; above = tt }

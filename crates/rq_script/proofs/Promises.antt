@@ -10,7 +10,7 @@ use Rattle.rq_script.specs.Cluster.{Stand, Running, Down, Server, Cluster, Cours
 use Rattle.rq_script.specs.Runs.{Runs}
 use Rattle.rq_script.specs.History.{History, node_at, node_in, notes_of, chosen_with, history}
 use Rattle.rq_script.specs.Promise.{Begins, IsReplica, IsKept, Keeps, Grows}
-use Rattle.rq_script.proofs.Fronts.{begins_take, begins_take_same, begins_length}
+use Rattle.rq_script.proofs.Prefixes.{begins_take, begins_take_same, begins_length}
 use Rattle.rq_script.proofs.Histories.{RightNote, all_get, Stands}
 use Rattle.rq_script.proofs.Moments.{Sound, Fits, FitsAt, MayGo, line_good}
 use Rattle.rq_script.proofs.Places.{Climbs, climbs_both, climbs_more, climbs_apart, AboveAt, Climbed, MayClimb, step_climbs}

@@ -4,9 +4,9 @@ use Rattle.std.specs.Option.{option_map}
 use Rattle.rq_statement.specs.declared.item.Item.{Item}
 use Rattle.rq_json.specs.Body.{texts_of}
 use Rattle.rq_node.specs.declared.waiting.Waiting.{Waiting}
-use Rattle.rq_node.specs.Node.{Node, Kept, Durable, Turn, kept_of, kept_after}
+use Rattle.rq_node.specs.Node.{Node, Persistent, StoredRecord, Turn, persistent_of, persistent_after}
 use Rattle.rq_node.specs.Rules.{elect, execute, query, apply, started}
-use Rattle.rq_node.specs.Files.{first_kept}
+use Rattle.rq_node.specs.Files.{first_persistent}
 use Rattle.rq_script.specs.Preparing.{statements_in, AreRead}
 use Rattle.rq_script.specs.ScriptLine.{Line, Skip, Cluster as ClusterLine, Elect, Apply, Execute, Query, Stop, StopWithin, Start, Show, line_of}
 use Rattle.rq_script.specs.ScriptText.{up_text, down_text, answers_text, pending_text, show_text, show_down_text}
@@ -15,7 +15,7 @@ use Rattle.rq_script.specs.ScriptText.{up_text, down_text, answers_text, pending
 pub data Stand : Type 0 where
   Running : (node : Node) → Stand
   -- `rest` is what a failing disk broke off: how much of it stands shows when the files are opened
-  Down : (kept : Kept) (rest : List Durable) → Stand
+  Down : (kept : Persistent) (rest : List StoredRecord) → Stand
 
 -- what the last line `stop ID K P` has left: so many changing calls still pass, and this is left of the one behind them
 pub record Armed : Type 0 where
@@ -41,7 +41,7 @@ first_cluster = record { server = None; asks = 0 }
 
 -- a server of that name, whose files are new
 abbrev pub new_server : List ℕ → Server
-new_server id = record { id = id; stand = Down first_kept []; armed = None; lost = []; failures = 0 }
+new_server id = record { id = id; stand = Down first_persistent []; armed = None; lost = []; failures = 0 }
 
 -- a cluster, and what was written on the way there
 abbrev pub Written : Type 0
@@ -65,7 +65,7 @@ abbrev pub whole : Course
 whole = record { fault = NoFault; stands = 0 }
 
 -- four changing calls for each thing that is made durable
-abbrev pub needed : List Durable → ℕ
+abbrev pub needed : List StoredRecord → ℕ
 needed items = 4 * length items
 
 -- so many calls pass
@@ -89,7 +89,7 @@ fate_of Reading passing = Failed
 fate_of Storing passing = Failed
 
 -- an event that stores nothing is always done
-abbrev pub fate : Course → Option Armed → List Durable → Fate
+abbrev pub fate : Course → Option Armed → List StoredRecord → Fate
 fate course armed [] = Done
 fate course armed (item ∷ items) = fate_of course.fault (passes armed (needed (item ∷ items)))
 
@@ -99,17 +99,17 @@ abbrev pub numbers : List Waiting → List ℕ
 numbers waiting = map (λ (w : Waiting). w.number) waiting
 
 -- the node goes down with all that waits there, and the line `stop ID K P` is spent
-abbrev pub gone_down : Server → Node → Kept → List Durable → List ℕ → Server
+abbrev pub gone_down : Server → Node → Persistent → List StoredRecord → List ℕ → Server
 gone_down s n kept rest asked = record s { stand = Down kept rest; armed = None; lost = s.lost ++ (numbers n.waiting ++ asked) }
 
 -- a turn at a running node, by its fate
 abbrev pub ended : Fate → Course → Server → Node → Turn → List ℕ → Server × List ℕ
-ended Done course s n turn asked = (record s { stand = Running turn.node; armed = left_after s.armed (needed turn.durable) }, answers_text turn.answers)
-ended Struck course s n turn asked = (gone_down s n (kept_after (kept_of n) (take course.stands turn.durable)) [] asked, down_text s.id)
-ended Failed course s n turn asked = (record (gone_down s n (kept_of n) turn.durable asked) { failures = s.failures + 1 }, down_text s.id)
+ended Done course s n turn asked = (record s { stand = Running turn.node; armed = left_after s.armed (needed turn.records) }, answers_text turn.answers)
+ended Struck course s n turn asked = (gone_down s n (persistent_after (persistent_of n) (take course.stands turn.records)) [] asked, down_text s.id)
+ended Failed course s n turn asked = (record (gone_down s n (persistent_of n) turn.records asked) { failures = s.failures + 1 }, down_text s.id)
 
 abbrev pub happens : Course → Server → Node → Turn → List ℕ → Server × List ℕ
-happens course s n turn asked = ended (fate course s.armed turn.durable) course s n turn asked
+happens course s n turn asked = ended (fate course s.armed turn.records) course s n turn asked
 
 -- an event at a server: where it is down nothing happens, and an ask is lost
 abbrev pub happens_at : Course → Server → (Node → Turn) → List ℕ → Server × List ℕ
@@ -120,16 +120,16 @@ happens_at course s rule asked = at s.stand
     at (Running n) = happens course s n (rule n) asked
 
 -- the files are opened, and the node starts with what they show
-abbrev pub opens : Course → Server → Kept → List Durable → Server × List ℕ
+abbrev pub opens : Course → Server → Persistent → List StoredRecord → Server × List ℕ
 opens course s kept rest = by course.fault
   where
     turn : Turn
-    turn = started s.id (kept_after kept (take course.stands rest))
+    turn = started s.id (persistent_after kept (take course.stands rest))
 
     by : Fault → Server × List ℕ
     by NoFault = (record s { stand = Running turn.node }, up_text turn.node)
     by Reading = (record s { failures = s.failures + 1 }, down_text s.id)
-    by Storing = (record s { stand = Down (kept_after kept (take course.stands rest)) turn.durable; failures = s.failures + 1 }, down_text s.id)
+    by Storing = (record s { stand = Down (persistent_after kept (take course.stands rest)) turn.records; failures = s.failures + 1 }, down_text s.id)
 
 -- start: of a node that is down
 abbrev pub starts : Course → Server → Option (Server × List ℕ)
@@ -144,7 +144,7 @@ abbrev pub stops : Server → Option (Server × List ℕ)
 stops s = at s.stand
   where
     at : Stand → Option (Server × List ℕ)
-    at (Running n) = Some (gone_down s n (kept_of n) [] [], down_text s.id)
+    at (Running n) = Some (gone_down s n (persistent_of n) [] [], down_text s.id)
     at (Down kept rest) = None
 
 -- stop within an event to come
@@ -184,7 +184,7 @@ founded course c id = where_none c.server
   where
     where_none : Option Server → Option Written
     where_none (Some _) = None
-    where_none None = Some (record c { server = Some (opens course (new_server id) first_kept []).0 }, (opens course (new_server id) first_kept []).1)
+    where_none None = Some (record c { server = Some (opens course (new_server id) first_persistent []).0 }, (opens course (new_server id) first_persistent []).1)
 
 -- what a line does, where its statements are read as these items
 abbrev pub done : List Item → Course → Cluster → Line → Option Written

@@ -3,7 +3,7 @@ use Rattle.std.specs.Prelude.{◌≡◌, ◌≤◌, ◌<◌, ℕ, List, [], ◌�
 use Rattle.rq_node.specs.declared.log_entry.LogEntry.{LogEntry}
 use Rattle.rq_node.specs.declared.log_entry.Content.{Content}
 use Rattle.rq_node.specs.declared.log_entry.Content.TheVariants.{NoOp, Execute}
-use Rattle.rq_node.specs.Node.{kept_after}
+use Rattle.rq_node.specs.Node.{persistent_after}
 use Rattle.rq_script.specs.Cluster.{Stand, Running, Down}
 use Rattle.rq_script.specs.History.{Write, Note}
 use Rattle.rq_script.specs.Promise.{op_of}
@@ -21,4 +21,4 @@ AreFromAsks book last (entry ∷ entries) most = (number : ℕ) × IsFromAsk boo
 -- of a node that runs, and of one that is down, however much of the rest stands
 abbrev pub IsAsked : List Note → ℕ → Stand → Type 0
 IsAsked book most (Running n) = AreFromAsks book 0 n.log most
-IsAsked book most (Down kept rest) = (stands : ℕ) → AreFromAsks book 0 (kept_after kept (take stands rest)).log most
+IsAsked book most (Down kept rest) = (stands : ℕ) → AreFromAsks book 0 (persistent_after kept (take stands rest)).log most

@@ -31,7 +31,7 @@ said_by Struck turn place = []
 said_by Failed turn place = []
 
 abbrev pub said : Course → Option Armed → Turn → ℕ → List Note
-said course armed turn place = said_by (fate course armed turn.durable) turn place
+said course armed turn place = said_by (fate course armed turn.records) turn place
 
 -- the answers where a node applies so many entries, each at the index of its entry
 unfoldable pub applying : ℕ → Node → List Note

@@ -11,4 +11,4 @@ pub mod ReadLine
 pub mod Runs
 pub mod ScriptLine
 pub mod ScriptText
-pub mod Telling
+pub mod Writing

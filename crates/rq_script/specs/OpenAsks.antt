@@ -6,4 +6,4 @@ use Rattle.rq_script.specs.History.{Note, Asked, Answered}
 abbrev pub Opens : List ℕ → List Note → List ℕ → Type 0
 Opens before [] after = before ≡ after
 Opens before (Asked number op ∷ notes) after = Opens (before ++ number ∷ []) notes after
-Opens before (Answered number say place ∷ notes) after = (front rest : List ℕ) × (before ≡ front ++ number ∷ rest) × Opens (front ++ rest) notes after
+Opens before (Answered number say place ∷ notes) after = (prefix rest : List ℕ) × (before ≡ prefix ++ number ∷ rest) × Opens (prefix ++ rest) notes after

@@ -9,7 +9,7 @@ use Rattle.rq_engine.specs.Meaning.{executed, answers}
 use Rattle.rq_node.specs.declared.log_entry.LogEntry.{LogEntry}
 use Rattle.rq_node.specs.declared.log_entry.Content.{Content}
 use Rattle.rq_node.specs.declared.log_entry.Content.TheVariants.{NoOp, Execute}
-use Rattle.rq_node.specs.Node.{Node, kept_after}
+use Rattle.rq_node.specs.Node.{Node, persistent_after}
 use Rattle.rq_script.specs.Cluster.{Stand, Running, Down}
 use Rattle.rq_script.specs.History.{Op, Write, Read, Note, Asked, Answered, History}
 
@@ -28,7 +28,7 @@ replica log = replayed [] log
 
 -- the list begins with this one
 abbrev pub Begins : {T : Type 0} → List T → List T → Type 0
-Begins {T} front whole = (rest : List T) × (front ++ rest ≡ whole)
+Begins {T} prefix whole = (rest : List T) × (prefix ++ rest ≡ whole)
 
 -- what the ask of this number was for
 abbrev pub op_of : List Note → ℕ → Option Op
@@ -44,7 +44,7 @@ pub record IsOutcome (log : List LogEntry) (index : ℕ) (items : List Item) (re
   pub is_list : entry.content ≡ Execute items
   pub outcome : results ≡ (executed (replica (take (index - 1) log)) items).1
 
--- results of a write are those of its entry; results of a read are those of its queries on the fold of the log's front of this length
+-- results of a write are those of its entry; results of a read are those of its queries on the fold of the log's prefix of this length
 abbrev pub IsRight : List LogEntry → Option Op → Say → ℕ → Type 0
 IsRight chosen (Some (Write items)) (Results results) place = IsOutcome chosen place items results
 IsRight chosen (Some (Read items)) (Results results) place = (place ≤ length chosen) × (results ≡ answers (replica (take place chosen)) items)
@@ -52,7 +52,7 @@ IsRight chosen (Some op) (NoLeader term) place = ⊤
 IsRight chosen (Some op) (EntryTooLarge size) place = ⊤
 IsRight chosen None say place = ⊥
 
--- a node's database is the fold of the applied front of its log, which is a front of the chosen log
+-- a node's database is the fold of the applied prefix of its log, which is a prefix of the chosen log
 pub record IsReplica (chosen : List LogEntry) (n : Node) : Type 0 where
   pub applied : Begins (take n.applied n.log) chosen
   pub committed : Begins (take n.commit n.log) chosen
@@ -61,7 +61,7 @@ pub record IsReplica (chosen : List LogEntry) (n : Node) : Type 0 where
 -- what was chosen stands in the log of a node that runs, and of one that is down in what its files show, however much of the rest stands
 abbrev pub IsKept : List LogEntry → Stand → Type 0
 IsKept chosen (Running n) = Begins chosen n.log
-IsKept chosen (Down kept rest) = (stands : ℕ) → Begins chosen (kept_after kept (take stands rest)).log
+IsKept chosen (Down kept rest) = (stands : ℕ) → Begins chosen (persistent_after kept (take stands rest)).log
 
 -- at a moment with this history, where this node runs
 pub record Keeps (h : History) (node : Option Node) : Type 0 where

@@ -15,9 +15,9 @@ pub data Line : Type 0 where
   Start : (id : List ℕ) → Line
   Show : (id : List ℕ) → Line
 
--- what stands behind this front, if the bytes begin with it
+-- what stands behind this prefix, if the bytes begin with it
 abbrev pub behind : List ℕ → List ℕ → Option (List ℕ)
-behind front bytes = if bytes_eq (take (length front) bytes) front then Some (drop (length front) bytes) else None
+behind prefix bytes = if bytes_eq (take (length prefix) bytes) prefix then Some (drop (length prefix) bytes) else None
 
 -- a line with what is behind its first words, or another one where it has other words
 abbrev pub or_other : Option (List ℕ) → (List ℕ → Option Line) → Option Line → Option Line

@@ -12,11 +12,11 @@ ghost use Rattle.rq_script.specs.OpenAsks.{Opens};
 ghost use Rattle.rq_script.specs.Promise.{IsKept, Keeps, Grows};
 ghost use Rattle.rq_script.specs.Runs.{Runs};
 ghost use Rattle.rq_script.specs.ScriptLine.{line_of};
-ghost use Rattle.rq_script.specs.Telling.{Tells, ReadsSeeApplied};
+ghost use Rattle.rq_script.specs.Writing.{Tells, ReadsSeeApplied};
 
-/// At each moment of a run, a running node's database is the fold of a front of the one log, and each answer that was given is
+/// At each moment of a run, a running node's database is the fold of a prefix of the one log, and each answer that was given is
 /// right: a write has a place of its own in that log, which no other write's answer has, and the answer is its entry's outcome
-/// there; a read is answered from the fold of a front.
+/// there; a read is answered from the fold of a prefix.
 #[tactic(auto, using(crate::proofs::Promises::promised))]
 pub fn each_moment_is_kept()
     ensures { (lines : List Line) (text : List ℕ) (c : Cluster) (run : Runs lines text c) → Keeps (history run) (node_in c) }

@@ -2,9 +2,9 @@
 ghost use Rattle.std.specs.Prelude.{◌≡◌, ◌++◌, codes, decimal, length, flat_map, OnOk};
 ghost use Rattle.rq_script.specs.ScriptText.{up_text, down_text, answer_text, answers_text, pending_text, role_text, show_text, show_down_text};
 
-use rq_request::{Answer, Say};
 use rq_json::write_body;
 use rq_node::{Role, State};
+use rq_request::{Answer, Say};
 use rq_values::{Id, NoMemory};
 use std::alloc::Global;
 

@@ -1,4 +1,4 @@
--- Characters in front of a token's source.
+-- Characters before a token's source.
 use Rattle.std.proofs.Common.{◌≡◌, ◌≤◌, ◌<◌, ℕ, zero, suc, pred, ◌+◌, ◌-◌, ◌==◌, nat_eq, nat_lt, ◌&&◌, Bool, true, false, if◌then◌else◌, List, [], ◌∷◌, ◌++◌, length, take, drop, refl, sym, ◌∙◌, ap, append_assoc, arith}
 use Rattle.std.proofs.lemmas.List.{take_all, drop-drop}
 use Rattle.std.proofs.lemmas.Str.{IsUtf8-append, IsUtf8-from_is_utf8, is_utf8-from_IsUtf8}
@@ -19,13 +19,13 @@ is_text_both bytes b one two = two ∙ ap (λ (c : Bool). c && list_all (λ byte
 pub is_text_not : (bytes : List ℕ) → false ≡ is_utf8 bytes → false ≡ is_text bytes
 is_text_not bytes one = ap (λ (c : Bool). c && list_all (λ byte. nat_lt 0 byte) bytes) one ∙ is_text_by bytes
 
-same_front : (m n : ℕ) (z : List ℕ) → length z ≤ m → length z ≤ n → is_text (take m z) ≡ is_text (take n z)
-same_front m n z one two = ap is_text (take_all m z one ∙ sym (take_all n z two))
+same_prefix : (m n : ℕ) (z : List ℕ) → length z ≤ m → length z ≤ n → is_text (take m z) ≡ is_text (take n z)
+same_prefix m n z one two = ap is_text (take_all m z one ∙ sym (take_all n z two))
 
--- a longer front that is a text, where a shorter one isn't, is there
+-- a longer prefix that is a text, where a shorter one isn't, is there
 longer_there : (n : ℕ) (z : List ℕ) → is_text (take n z) ≡ false → is_text (take (suc n) z) ≡ true → suc n ≤ length z
 longer_there n z short long =
-    let none : (length z ≤ n → ⊥) = λ le. (let e = same_front n (suc n) z le (omega (arith, le)) in absurd (cc)) in
+    let none : (length z ≤ n → ⊥) = λ le. (let e = same_prefix n (suc n) z le (omega (arith, le)) in absurd (cc)) in
     omega (arith, none)
 
 pub char_within : (z : List ℕ) → 0 < length z → char_len z ≤ length z

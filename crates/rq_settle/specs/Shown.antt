@@ -6,7 +6,7 @@ use Rattle.rq_values.specs.Text.{is_text}
 abbrev pub replacement : List ℕ
 replacement = 239 ∷ 191 ∷ 189 ∷ []
 
--- how long the character in front is that can be shown, 0 where there is none
+-- how long the character before it is that can be shown, 0 where there is none
 abbrev pub char_len : List ℕ → ℕ
 char_len z =
     if is_text (take 1 z) then 1
@@ -19,7 +19,7 @@ abbrev pub is_zero : ℕ → Bool
 is_zero zero = true
 is_zero (suc n) = false
 
--- `left` bytes of a character in front are still to come
+-- `left` bytes of a character before it are still to come
 abbrev pub shown_from : ℕ → List ℕ → List ℕ
 shown_from left [] = []
 shown_from (suc left) (b ∷ z) = b ∷ shown_from left z

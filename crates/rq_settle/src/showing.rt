@@ -31,7 +31,7 @@ fn has_no_zero(bytes: &[u8]) -> bool
 }
 
 /// Whether the first bytes, so many, are there and are a text.
-fn is_text_front(source: &[u8], len: usize) -> bool
+fn is_text_prefix(source: &[u8], len: usize) -> bool
     ensures { result ≡ is_text (take len source.now) }
 {
     if len <= source.len() {
@@ -41,21 +41,21 @@ fn is_text_front(source: &[u8], len: usize) -> bool
     }
 }
 
-/// How long the character in front is that can be shown, 0 where there is none.
+/// How long the character before it is that can be shown, 0 where there is none.
 #[tactic(auto, using(crate::proofs::Characters::char_within, crate::proofs::Characters::char_text))]
-fn front_len(source: &[u8]) -> usize
+fn prefix_len(source: &[u8]) -> usize
     requires { 0 < length source.now }
     ensures len { result ≡ char_len source.now }
     ensures within { result ≤ length source.now }
     ensures text { 0 < result → is_text (take result source.now) ≡ true }
 {
-    if is_text_front(source, 1) {
+    if is_text_prefix(source, 1) {
         1
-    } else if is_text_front(source, 2) {
+    } else if is_text_prefix(source, 2) {
         2
-    } else if is_text_front(source, 3) {
+    } else if is_text_prefix(source, 3) {
         3
-    } else if is_text_front(source, 4) {
+    } else if is_text_prefix(source, 4) {
         4
     } else {
         0
@@ -78,7 +78,7 @@ pub fn show(source: &[u8], into: &mut Vec<u8>) -> Result<(), NoMemory>
     let mut at = 0;
     while at < source.len() {
         let rest = from_place(source, at);
-        let len = front_len(rest);
+        let len = prefix_len(rest);
         if len == 0 {
             into.extend_from_slice(b"\xEF\xBF\xBD")?;
             at += 1;

@@ -14,7 +14,7 @@ use Rattle.rq_lexer.specs.Lex.{lex}
 use Rattle.rq_lexer.specs.Spelled.{tokens_in}
 use Rattle.rq_sql.specs.declared.error.ReadError.{ReadError}
 use Rattle.rq_sql.specs.declared.error.ReadError.TheVariants as e
-use Rattle.rq_sql.specs.Read.{most_bytes, at_place, at_front, refusal, IsRefused, Means, Reads, ReadsOnly, is_out_of_profile}
+use Rattle.rq_sql.specs.Read.{most_bytes, at_place, at_prefix, refusal, IsRefused, Means, Reads, ReadsOnly, is_out_of_profile}
 use Rattle.rq_sql.specs.Running.{told, runs}
 
 -- the laws of the grammar
@@ -42,12 +42,12 @@ place_at TooDeep is_out from upto = refl
 place_at NoStatement true from upto = refl
 place_at NoStatement false from upto = refl
 
-place_front : (size : ℕ) (stop : Stop) (ps : List Placed) → has_place (at_front size stop ps) ≡ true
-place_front size stop [] = refl
-place_front size stop (p ∷ ps) = place_at stop (is_out_of_profile p.token) p.start p.end
+place_prefix : (size : ℕ) (stop : Stop) (ps : List Placed) → has_place (at_prefix size stop ps) ≡ true
+place_prefix size stop [] = refl
+place_prefix size stop (p ∷ ps) = place_at stop (is_out_of_profile p.token) p.start p.end
 
 placed : {text : Text} {x : ReadError} → IsRefused text x → has_place x ≡ true
-placed {text} k = ap has_place k.told ∙ place_front (length text) k.stop (drop k.before (lex text))
+placed {text} k = ap has_place k.told ∙ place_prefix (length text) k.stop (drop k.before (lex text))
 
 refused_means : (text : Text) (x : ReadError) → has_place x ≡ true → IsRefused text x → Means text (Err x)
 refused_means text (e.TooLong n) h k = absurd (cc)
@@ -110,7 +110,7 @@ one_answer one place text (Err x) (Err y) h k =
 told_means : Sound → Stops → (text : Text) → length text ≤ most_bytes → (o : Result Stmt (Stop × ℕ)) → parse_within the_limits 0 Start (tokens_in text) ≡ o → Means text (told (length text) (lex text) o)
 told_means sound stops text short (Ok r) h = (short, sound the_limits (tokens_in text) r h)
 told_means sound stops text short (Err k) h =
-    refused_means text (refusal text k.0 k.1) (place_front (length text) k.0 (drop k.1 (lex text)))
+    refused_means text (refusal text k.0 k.1) (place_prefix (length text) k.0 (drop k.1 (lex text)))
     (record { short = short; stop = k.0; before = k.1; stops = stops the_limits (tokens_in text) k.0 k.1 h; told = refl })
 
 pub runs_means : Sound → Stops → (text : Text) → length text ≤ most_bytes → Means text (runs (length text) 0 Start (lex text))

@@ -34,13 +34,13 @@ abbrev pub at_token : Stop → Placed → ReadError
 at_token stop p = at_place stop (is_out_of_profile p.token) p.start p.end
 
 -- the refusal at the first of the tokens; where none is left, the empty span at the end of a text of this size
-abbrev pub at_front : ℕ → Stop → List Placed → ReadError
-at_front size stop [] = e.Near size size
-at_front size stop (p ∷ more) = at_token stop p
+abbrev pub at_prefix : ℕ → Stop → List Placed → ReadError
+at_prefix size stop [] = e.Near size size
+at_prefix size stop (p ∷ more) = at_token stop p
 
 -- the refusal where reading stops behind n tokens
 abbrev pub refusal : Text → Stop → ℕ → ReadError
-refusal text stop n = at_front (length text) stop (drop n (lex text))
+refusal text stop n = at_prefix (length text) stop (drop n (lex text))
 
 -- the text isn't too long, and is refused so
 pub record IsRefused (text : Text) (error : ReadError) : Type 0 where

@@ -9,12 +9,12 @@ use Rattle.rq_sql.specs.declared.error.ReadError.{ReadError}
 use Rattle.rq_sql.specs.declared.error.ReadError.TheVariants as e
 use Rattle.rq_sql.specs.declared.steps.Next.{Next}
 use Rattle.rq_sql.specs.declared.steps.Next.TheVariants as n
-use Rattle.rq_sql.specs.Read.{at_front}
+use Rattle.rq_sql.specs.Read.{at_prefix}
 
 -- the machine's answer over these tokens, with its place in a text of this size
 abbrev pub told : ℕ → List Placed → Result Stmt (Stop × ℕ) → Result Stmt ReadError
 told size ps (Ok stmt) = Ok stmt
-told size ps (Err k) = Err (at_front size k.0 (drop k.1 ps))
+told size ps (Err k) = Err (at_prefix size k.0 (drop k.1 ps))
 
 -- the answer from a state on, where `opened` parentheses are open and the tokens are still to come
 unfoldable pub runs : ℕ → ℕ → State → List Placed → Result Stmt ReadError

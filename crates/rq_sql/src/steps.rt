@@ -12,7 +12,7 @@ use rq_lexer::{Lexer, Placed};
 use rq_machine::{Stop, advance, finish, open_behind};
 use std::alloc::Global;
 
-/// The number that is a numeral only behind a front `-`.
+/// The number that is a numeral only behind a prefix `-`.
 const MOST: u64 = 9_223_372_036_854_775_808;
 
 /// What a token gives.

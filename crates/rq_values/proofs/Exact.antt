@@ -14,7 +14,7 @@ use Rattle.rq_values.specs.declared.value.Value.TheVariants as values
 use Rattle.rq_values.specs.Text.{is_text, is_id, is_addr}
 use Rattle.rq_values.specs.Order.{rank_of}
 use Rattle.rq_values.specs.Spelling.{bool_bytes, u32_bytes, u64_bytes, i64_bytes, sized, option_bytes, list_bytes, value_bytes}
-use Rattle.rq_values.specs.Reading.{◌>>=◌, done, made, checked, front_at, u8_at, kind_at, bool_at, u32_at, u64_at, i64_at, length_at, bytes_at, text_at, id_at, addr_at, option_at, many_at, list_at, rising_at, rising_list_at, value_at}
+use Rattle.rq_values.specs.Reading.{◌>>=◌, done, made, checked, prefix_at, u8_at, kind_at, bool_at, u32_at, u64_at, i64_at, length_at, bytes_at, text_at, id_at, addr_at, option_at, many_at, list_at, rising_at, rising_list_at, value_at}
 use Rattle.rq_values.proofs.Local.{bind_ok, guard_ok, short_ok, ok_is, not_below, not_below_le}
 use Rattle.rq_values.specs.Exact.{AreBytes, AreProper, Follow, IsExact, IsKind, IsNamed, IsNoneOr, IsProper, IsWithin, Stood}
 
@@ -56,12 +56,12 @@ exact_bind {A} {B} one next s t P Q part first second parts = record {
   stood = λ bytes b rest all h.
       let found = bind_ok (one bytes) (λ x. next x.0 x.1) (b, rest) h in
       let a = found.0.0 in
-      let front = first.stood bytes a found.0.1 all found.1 in
-      let back = (second a front.proper).stood found.0.1 b rest front.behind found.2 in
+      let prefix = first.stood bytes a found.0.1 all found.1 in
+      let back = (second a prefix.proper).stood found.0.1 b rest prefix.behind found.2 in
       let same : part b ≡ a = parts a b back.proper in
       record {
-        is = front.is ∙ ap (λ (l : List ℕ). s a ++ l) back.is ∙ sym (append_assoc (s a) (t a b) rest) ∙ ap (λ (x : A). (s x ++ t x b) ++ rest) (sym same);
-        proper = subst (λ (x : A). P x × Q x b) (sym same) (front.proper, back.proper);
+        is = prefix.is ∙ ap (λ (l : List ℕ). s a ++ l) back.is ∙ sym (append_assoc (s a) (t a b) rest) ∙ ap (λ (x : A). (s x ++ t x b) ++ rest) (sym same);
+        proper = subst (λ (x : A). P x × Q x b) (sym same) (prefix.proper, back.proper);
         behind = back.behind;
       };
 }
@@ -76,12 +76,12 @@ exact_made {A} {B} one s P f back Q exact there here = record {
   stood = λ bytes b rest all h.
       let found = bind_ok (one bytes) (λ x. Ok (f x.0, x.1)) (b, rest) h in
       let e = ok_is (f found.0.0, found.0.1) (b, rest) (Ok (f found.0.0, found.0.1)) refl found.2 in
-      let front = exact.stood bytes found.0.0 found.0.1 all found.1 in
-      let p = here found.0.0 front.proper in
+      let prefix = exact.stood bytes found.0.0 found.0.1 all found.1 in
+      let p = here found.0.0 prefix.proper in
       record {
-        is = front.is ∙ ap (λ (x : A). s x ++ found.0.1) (sym p.1) ∙ (λ i. s (back (e i).0) ++ (e i).1);
+        is = prefix.is ∙ ap (λ (x : A). s x ++ found.0.1) (sym p.1) ∙ (λ i. s (back (e i).0) ++ (e i).1);
         proper = subst Q (ap (λ x. x.0) e) p.0;
-        behind = subst AreBytes (ap (λ x. x.1) e) front.behind;
+        behind = subst AreBytes (ap (λ x. x.1) e) prefix.behind;
       };
 }
 
@@ -95,11 +95,11 @@ exact_checked {A} one s P test why exact = record {
   stood = λ bytes a rest all h.
       let found = bind_ok (one bytes) (λ x. cond (test x.0) (Ok x) (Err (why (length bytes) x.0))) (a, rest) h in
       let passed = guard_ok (test found.0.0) found.0 (a, rest) (why (length bytes) found.0.0) found.2 in
-      let front = exact.stood bytes found.0.0 found.0.1 all found.1 in
+      let prefix = exact.stood bytes found.0.0 found.0.1 all found.1 in
       record {
-        is = front.is ∙ (λ i. s (passed.1 i).0 ++ (passed.1 i).1);
-        proper = subst (λ (x : A). P x × (test x ≡ true)) (ap (λ x. x.0) passed.1) (front.proper, passed.0);
-        behind = subst AreBytes (ap (λ x. x.1) passed.1) front.behind;
+        is = prefix.is ∙ (λ i. s (passed.1 i).0 ++ (passed.1 i).1);
+        proper = subst (λ (x : A). P x × (test x ≡ true)) (ap (λ x. x.0) passed.1) (prefix.proper, passed.0);
+        behind = subst AreBytes (ap (λ x. x.1) passed.1) prefix.behind;
       };
 }
 
@@ -109,15 +109,15 @@ pub exact_same : {A : Type 0} (one : List ℕ → Result (A × List ℕ) DecodeE
 exact_same {A} one s t P Q exact same there here = record {
   reads = λ a rest proper. ap (λ (l : List ℕ). one (l ++ rest)) (sym (same a (here a proper))) ∙ exact.reads a rest (here a proper);
   stood = λ bytes a rest all h.
-      let front = exact.stood bytes a rest all h in
-      record { is = front.is ∙ ap (λ (l : List ℕ). l ++ rest) (same a front.proper); proper = there a front.proper; behind = front.behind };
+      let prefix = exact.stood bytes a rest all h in
+      record { is = prefix.is ∙ ap (λ (l : List ℕ). l ++ rest) (same a prefix.proper); proper = there a prefix.proper; behind = prefix.behind };
 }
 
 -- ---- the fields
 
-pub exact_front : (n : ℕ) → IsExact (front_at n) (λ l. l) (λ l. (length l ≡ n) × AreBytes l)
-unfolding front_at
-exact_front n = record {
+pub exact_prefix : (n : ℕ) → IsExact (prefix_at n) (λ l. l) (λ l. (length l ≡ n) × AreBytes l)
+unfolding prefix_at
+exact_prefix n = record {
   reads = λ l rest proper.
       let enough : nat_lt (length (l ++ rest)) n ≡ false = not_below (length (l ++ rest)) n (omega (arith, length-append l rest, proper.0)) in
       λ i. cond {A = Result (List ℕ × List ℕ) DecodeError} (enough i) (Err (Short 0)) (Ok (take_at l rest n proper.0 i, drop_at l rest n proper.0 i));
@@ -174,13 +174,13 @@ below_8 (a ∷ b ∷ c ∷ d ∷ a' ∷ b' ∷ c' ∷ d' ∷ f ∷ l) e h = absu
 
 pub exact_u32 : IsExact u32_at u32_bytes (λ n. n < 2 ^ 32)
 unfolding u32_at u32_bytes
-exact_u32 = exact_made (front_at 4) (λ l. l) (λ l. (length l ≡ 4) × AreBytes l) (from_le_bytes w32) (to_le_bytes w32) (λ n. n < 2 ^ 32) (exact_front 4)
+exact_u32 = exact_made (prefix_at 4) (λ l. l) (λ l. (length l ≡ 4) × AreBytes l) (from_le_bytes w32) (to_le_bytes w32) (λ n. n < 2 ^ 32) (exact_prefix 4)
     (λ n fits. ((refl, bytes_of_4 n), from_le_bytes-to_le_bytes_4 n fits))
     (λ l proper. (below_4 l proper.0 proper.1, le_bytes_4 l (from_le_bytes w32 l) proper.0 (below_256 l proper.1) refl))
 
 pub exact_u64 : IsExact u64_at u64_bytes (λ n. n < 2 ^ 64)
 unfolding u64_at u64_bytes
-exact_u64 = exact_made (front_at 8) (λ l. l) (λ l. (length l ≡ 8) × AreBytes l) (from_le_bytes w64) (to_le_bytes w64) (λ n. n < 2 ^ 64) (exact_front 8)
+exact_u64 = exact_made (prefix_at 8) (λ l. l) (λ l. (length l ≡ 8) × AreBytes l) (from_le_bytes w64) (to_le_bytes w64) (λ n. n < 2 ^ 64) (exact_prefix 8)
     (λ n fits. ((refl, bytes_of_8 n), from_le_bytes-to_le_bytes_8 n fits))
     (λ l proper. (below_8 l proper.0 proper.1, le_bytes_8 l (from_le_bytes w64 l) proper.0 (below_256 l proper.1) refl))
 
@@ -201,8 +201,8 @@ pub exact_bytes : (limit : ℕ) → IsExact (bytes_at limit) sized (IsWithin lim
 unfolding bytes_at length_at
 exact_bytes limit =
     exact_same (bytes_at limit) sized sized (λ l. ((length l < 2 ^ 32) × (nat_le (length l) limit ≡ true)) × ((length l ≡ length l) × AreBytes l)) (IsWithin limit)
-    (exact_bind (length_at limit) front_at u32_bytes (λ _ l. l) (λ n. (n < 2 ^ 32) × (nat_le n limit ≡ true)) (λ n l. (length l ≡ n) × AreBytes l) length
-    (exact_checked u32_at u32_bytes (λ n. n < 2 ^ 32) (λ len. nat_le len limit) Long exact_u32) (λ n _. exact_front n) (λ n l proper. proper.0))
+    (exact_bind (length_at limit) prefix_at u32_bytes (λ _ l. l) (λ n. (n < 2 ^ 32) × (nat_le n limit ≡ true)) (λ n l. (length l ≡ n) × AreBytes l) length
+    (exact_checked u32_at u32_bytes (λ n. n < 2 ^ 32) (λ len. nat_le len limit) Long exact_u32) (λ n _. exact_prefix n) (λ n l proper. proper.0))
     (λ l _. refl) (λ l p. (within (length l) limit p.0.1, p.0.0, p.1.1)) (λ l p. ((p.1, tested (length l) limit p.0), (refl, p.2)))
 
 pub exact_text : (limit : ℕ) → IsExact (text_at limit) sized (IsNamed is_text limit)
@@ -278,11 +278,11 @@ option_some {A} one s P exact = record { reads = reads; stood = stood }
     stood bytes o rest all h =
         let found = bind_ok (one bytes) (λ x. Ok (Some x.0, x.1)) (o, rest) h in
         let e = ok_is (Some found.0.0, found.0.1) (o, rest) (Ok (Some found.0.0, found.0.1)) refl found.2 in
-        let front = exact.stood bytes found.0.0 found.0.1 all found.1 in
+        let prefix = exact.stood bytes found.0.0 found.0.1 all found.1 in
         record {
-          is = front.is ∙ (λ i. inside s (e i).0 ++ (e i).1);
-          proper = subst (OfTag P 1) (ap (λ x. x.0) e) (refl, front.proper);
-          behind = subst AreBytes (ap (λ x. x.1) e) front.behind;
+          is = prefix.is ∙ (λ i. inside s (e i).0 ++ (e i).1);
+          proper = subst (OfTag P 1) (ap (λ x. x.0) e) (refl, prefix.proper);
+          behind = subst AreBytes (ap (λ x. x.1) e) prefix.behind;
         }
 
 option_inside : {A : Type 0} → (List ℕ → Result (A × List ℕ) DecodeError) → ℕ → List ℕ → Result (Option A × List ℕ) DecodeError
@@ -348,11 +348,11 @@ many_more {A} one s P exact n others = record { reads = reads; stood = stood }
         let x = found.0.0 in
         let more = bind_ok (many_at one n found.0.1) (λ more. Ok (x ∷ more.0, more.1)) (things, rest) found.2 in
         let e = ok_is (x ∷ more.0.0, more.0.1) (things, rest) (Ok (x ∷ more.0.0, more.0.1)) refl more.2 in
-        let front = exact.stood bytes x found.0.1 all found.1 in
-        let back = others.stood found.0.1 more.0.0 more.0.1 front.behind more.1 in
+        let prefix = exact.stood bytes x found.0.1 all found.1 in
+        let back = others.stood found.0.1 more.0.0 more.0.1 prefix.behind more.1 in
         record {
-          is = front.is ∙ ap (λ (l : List ℕ). s x ++ l) back.is ∙ sym (append_assoc (s x) (flat_map s more.0.0) more.0.1) ∙ (λ i. flat_map s (e i).0 ++ (e i).1);
-          proper = subst (λ (l : List A). (length l ≡ suc n) × AreProper P l) (ap (λ x. x.0) e) (ap suc back.proper.0, (front.proper, back.proper.1));
+          is = prefix.is ∙ ap (λ (l : List ℕ). s x ++ l) back.is ∙ sym (append_assoc (s x) (flat_map s more.0.0) more.0.1) ∙ (λ i. flat_map s (e i).0 ++ (e i).1);
+          proper = subst (λ (l : List A). (length l ≡ suc n) × AreProper P l) (ap (λ x. x.0) e) (ap suc back.proper.0, (prefix.proper, back.proper.1));
           behind = subst AreBytes (ap (λ x. x.1) e) back.behind;
         }
 
@@ -404,11 +404,11 @@ rising_more {A} one s P exact n others last = record { reads = reads; stood = st
         let x = found.0.0 in
         let more = bind_ok (rising_at one n (Some x) found.0.1) (λ more. Ok (x ∷ more.0, more.1)) (things, rest) found.2 in
         let e = ok_is (x ∷ more.0.0, more.0.1) (things, rest) (Ok (x ∷ more.0.0, more.0.1)) refl more.2 in
-        let front = (exact last).stood bytes x found.0.1 all found.1 in
-        let back = (others (Some x)).stood found.0.1 more.0.0 more.0.1 front.behind more.1 in
+        let prefix = (exact last).stood bytes x found.0.1 all found.1 in
+        let back = (others (Some x)).stood found.0.1 more.0.0 more.0.1 prefix.behind more.1 in
         record {
-          is = front.is ∙ ap (λ (l : List ℕ). s x ++ l) back.is ∙ sym (append_assoc (s x) (flat_map s more.0.0) more.0.1) ∙ (λ i. flat_map s (e i).0 ++ (e i).1);
-          proper = subst (λ (l : List A). (length l ≡ suc n) × Follow P last l) (ap (λ x. x.0) e) (ap suc back.proper.0, (front.proper, back.proper.1));
+          is = prefix.is ∙ ap (λ (l : List ℕ). s x ++ l) back.is ∙ sym (append_assoc (s x) (flat_map s more.0.0) more.0.1) ∙ (λ i. flat_map s (e i).0 ++ (e i).1);
+          proper = subst (λ (l : List A). (length l ≡ suc n) × Follow P last l) (ap (λ x. x.0) e) (ap suc back.proper.0, (prefix.proper, back.proper.1));
           behind = subst AreBytes (ap (λ x. x.1) e) back.behind;
         }
 

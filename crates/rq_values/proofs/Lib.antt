@@ -5,4 +5,4 @@ pub mod Agreeing
 pub mod Faults
 pub mod Local
 pub mod Exact
-pub mod Fronts
+pub mod Prefixes

@@ -7,7 +7,7 @@ use Rattle.rq_values.specs.declared.error.DecodeError.{DecodeError}
 use Rattle.rq_values.specs.declared.error.DecodeError.TheVariants.{Short, Kind, Long, NotText, Rule}
 use Rattle.rq_values.specs.declared.value.Value.TheVariants as values
 use Rattle.rq_values.specs.Text.{is_text, is_id, is_addr}
-use Rattle.rq_values.specs.Reading.{◌>>=◌, done, made, checked, front_at, u8_at, kind_at, bool_at, u32_at, u64_at, i64_at, length_at, bytes_at, text_at, id_at, addr_at, option_at, many_at, list_at, rising_at, rising_list_at, sized_at, value_at}
+use Rattle.rq_values.specs.Reading.{◌>>=◌, done, made, checked, prefix_at, u8_at, kind_at, bool_at, u32_at, u64_at, i64_at, length_at, bytes_at, text_at, id_at, addr_at, option_at, many_at, list_at, rising_at, rising_list_at, sized_at, value_at}
 use Rattle.rq_values.specs.Local.{IsLocal}
 
 -- ---- steps that went well
@@ -42,7 +42,7 @@ not_below_le m n h = grind (arith, nat_tests)
 -- ---- the combinators
 
 pub local_done : {A : Type 0} (thing : A) → IsLocal (done thing)
-local_done {A} thing bytes a rest h = record { front = []; is = ap (λ r. rest_of bytes r) h; again = λ z. ap (λ r. ok_with r z) h }
+local_done {A} thing bytes a rest h = record { prefix = []; is = ap (λ r. rest_of bytes r) h; again = λ z. ap (λ r. ok_with r z) h }
   where
     rest_of : List ℕ → Result (A × List ℕ) DecodeError → List ℕ
     rest_of d (Ok x) = x.1
@@ -59,9 +59,9 @@ local_bind one next local after bytes b rest h =
     let s = local bytes first.0.0 first.0.1 first.1 in
     let t = after first.0.0 first.0.1 b rest first.2 in
     record {
-      front = s.front ++ t.front;
-      is = s.is ∙ ap (λ (l : List ℕ). s.front ++ l) t.is ∙ sym (append_assoc s.front t.front rest);
-      again = λ z. ap (λ r. r >>= λ x. next x.0 x.1) (ap one (append_assoc s.front t.front z) ∙ s.again (t.front ++ z)) ∙ t.again z;
+      prefix = s.prefix ++ t.prefix;
+      is = s.is ∙ ap (λ (l : List ℕ). s.prefix ++ l) t.is ∙ sym (append_assoc s.prefix t.prefix rest);
+      again = λ z. ap (λ r. r >>= λ x. next x.0 x.1) (ap one (append_assoc s.prefix t.prefix z) ∙ s.again (t.prefix ++ z)) ∙ t.again z;
     }
 
 -- a thing made of another
@@ -76,10 +76,10 @@ local_checked one test why local bytes a rest h =
     let is_a : first.0.0 ≡ a = ap (λ x. x.0) passed.1 in
     let s = local bytes a rest (first.1 ∙ ap Ok passed.1) in
     record {
-      front = s.front;
+      prefix = s.prefix;
       is = s.is;
-      again = λ z. ap (λ r. r >>= λ x. cond (test x.0) (Ok x) (Err (why (length (s.front ++ z)) x.0))) (s.again z)
-          ∙ ap (λ b. cond b (Ok (a, z)) (Err (why (length (s.front ++ z)) a))) (ap test (sym is_a) ∙ passed.0);
+      again = λ z. ap (λ r. r >>= λ x. cond (test x.0) (Ok x) (Err (why (length (s.prefix ++ z)) x.0))) (s.again z)
+          ∙ ap (λ b. cond b (Ok (a, z)) (Err (why (length (s.prefix ++ z)) a))) (ap test (sym is_a) ∙ passed.0);
     }
 
 -- one of two readers
@@ -89,19 +89,19 @@ local_choice false one two local other = other
 
 -- ---- the fields
 
-pub local_front : (n : ℕ) → IsLocal (front_at n)
-unfolding front_at
-local_front n bytes a rest h =
+pub local_prefix : (n : ℕ) → IsLocal (prefix_at n)
+unfolding prefix_at
+local_prefix n bytes a rest h =
     let whole = short_ok (nat_lt (length bytes) n) (take n bytes, drop n bytes) (a, rest) (Short 0) h in
     let long : n ≤ length bytes = not_below_le (length bytes) n whole.0 in
-    let front = take n bytes in
-    let size : length front ≡ n = length-take-le n bytes long in
+    let prefix = take n bytes in
+    let size : length prefix ≡ n = length-take-le n bytes long in
     record {
-      front = front;
-      is = sym (take-append-drop n bytes) ∙ ap (λ (l : List ℕ). front ++ l) (ap (λ x. x.1) whole.1);
+      prefix = prefix;
+      is = sym (take-append-drop n bytes) ∙ ap (λ (l : List ℕ). prefix ++ l) (ap (λ x. x.1) whole.1);
       again = λ z.
-          let enough : nat_lt (length (front ++ z)) n ≡ false = not_below (length (front ++ z)) n (omega (arith, length-append front z, size)) in
-          (λ i. cond {A = Result (List ℕ × List ℕ) DecodeError} (enough i) (Err (Short 0)) (Ok (take_at front z n size i, drop_at front z n size i)))
+          let enough : nat_lt (length (prefix ++ z)) n ≡ false = not_below (length (prefix ++ z)) n (omega (arith, length-append prefix z, size)) in
+          (λ i. cond {A = Result (List ℕ × List ℕ) DecodeError} (enough i) (Err (Short 0)) (Ok (take_at prefix z n size i, drop_at prefix z n size i)))
           ∙ ap (λ (l : List ℕ). Ok (l, z)) (ap (λ x. x.0) whole.1);
     }
 
@@ -111,7 +111,7 @@ local_u8 [] a rest h = absurd (cc)
 local_u8 (byte ∷ bytes) a rest h =
     let same = ok_is (byte, bytes) (a, rest) (Ok (byte, bytes)) refl h in
     record {
-      front = byte ∷ [];
+      prefix = byte ∷ [];
       is = ap (λ (l : List ℕ). byte ∷ l) (ap (λ x. x.1) same);
       again = λ z. ap (λ (k : ℕ). Ok (k, z)) (ap (λ x. x.0) same);
     }
@@ -126,11 +126,11 @@ local_bool = local_made (kind_at 1) (λ kind. kind == 1) (local_kind 1)
 
 pub local_u32 : IsLocal u32_at
 unfolding u32_at
-local_u32 = local_made (front_at 4) (from_le_bytes w32) (local_front 4)
+local_u32 = local_made (prefix_at 4) (from_le_bytes w32) (local_prefix 4)
 
 pub local_u64 : IsLocal u64_at
 unfolding u64_at
-local_u64 = local_made (front_at 8) (from_le_bytes w64) (local_front 8)
+local_u64 = local_made (prefix_at 8) (from_le_bytes w64) (local_prefix 8)
 
 pub local_i64 : IsLocal i64_at
 unfolding i64_at
@@ -142,7 +142,7 @@ local_length limit = local_checked u32_at (λ len. nat_le len limit) Long local_
 
 pub local_bytes : (limit : ℕ) → IsLocal (bytes_at limit)
 unfolding bytes_at
-local_bytes limit = local_bind (length_at limit) front_at (local_length limit) local_front
+local_bytes limit = local_bind (length_at limit) prefix_at (local_length limit) local_prefix
 
 pub local_text : (limit : ℕ) → IsLocal (text_at limit)
 unfolding text_at
@@ -192,15 +192,15 @@ local_sized {A} size one local_size local bytes a rest h =
     let s = local_size bytes len.0.0 len.0.1 len.1 in
     let t = local len.0.1 a rest (thing.1 ∙ ap Ok passed.1) in
     let filled : length len.0.1 ≡ len.0.0 + length rest = eq_true _ _ passed.0 ∙ ap (λ x. len.0.0 + length x.1) passed.1 in
-    let fits : length t.front ≡ len.0.0 = omega (arith, filled, ap length t.is, length-append t.front rest) in
+    let fits : length t.prefix ≡ len.0.0 = omega (arith, filled, ap length t.is, length-append t.prefix rest) in
     record {
-      front = s.front ++ t.front;
-      is = s.is ∙ ap (λ (l : List ℕ). s.front ++ l) t.is ∙ sym (append_assoc s.front t.front rest);
+      prefix = s.prefix ++ t.prefix;
+      is = s.is ∙ ap (λ (l : List ℕ). s.prefix ++ l) t.is ∙ sym (append_assoc s.prefix t.prefix rest);
       again = λ z.
-          let check : (length (t.front ++ z) == len.0.0 + length z) ≡ true = is_eq (length (t.front ++ z)) (len.0.0 + length z) (omega (arith, fits, length-append t.front z)) in
-          ap (λ r. r >>= λ n. one n.1 >>= λ x. cond {A = Result (A × List ℕ) DecodeError} (length n.1 == n.0 + length x.1) (Ok x) (Err (Rule (length ((s.front ++ t.front) ++ z))))) (ap size (append_assoc s.front t.front z) ∙ s.again (t.front ++ z))
-          ∙ ap (λ r. r >>= λ x. cond {A = Result (A × List ℕ) DecodeError} (length (t.front ++ z) == len.0.0 + length x.1) (Ok x) (Err (Rule (length ((s.front ++ t.front) ++ z))))) (t.again z)
-          ∙ ap (λ b. cond {A = Result (A × List ℕ) DecodeError} b (Ok (a, z)) (Err (Rule (length ((s.front ++ t.front) ++ z))))) check;
+          let check : (length (t.prefix ++ z) == len.0.0 + length z) ≡ true = is_eq (length (t.prefix ++ z)) (len.0.0 + length z) (omega (arith, fits, length-append t.prefix z)) in
+          ap (λ r. r >>= λ n. one n.1 >>= λ x. cond {A = Result (A × List ℕ) DecodeError} (length n.1 == n.0 + length x.1) (Ok x) (Err (Rule (length ((s.prefix ++ t.prefix) ++ z))))) (ap size (append_assoc s.prefix t.prefix z) ∙ s.again (t.prefix ++ z))
+          ∙ ap (λ r. r >>= λ x. cond {A = Result (A × List ℕ) DecodeError} (length (t.prefix ++ z) == len.0.0 + length x.1) (Ok x) (Err (Rule (length ((s.prefix ++ t.prefix) ++ z))))) (t.again z)
+          ∙ ap (λ b. cond {A = Result (A × List ℕ) DecodeError} b (Ok (a, z)) (Err (Rule (length ((s.prefix ++ t.prefix) ++ z))))) check;
     }
 
 pub local_value : (limit : ℕ) → IsLocal (value_at limit)

@@ -96,7 +96,7 @@ impl Text {
         Ok(())
     }
 
-    /// An integer as its decimal digits, with a minus sign in front where it is below 0.
+    /// An integer as its decimal digits, with a minus sign before it where it is below 0.
     pub fn of_integer(alloc: Global, number: i64) -> Result<Text, NoMemory>
         ensures { IfOk result (λ text. text ≡ signed_decimal number) }
     {

@@ -48,12 +48,12 @@ module _ (old mid : DiskMeaning) (place : ℕ) (piece : List ℕ) (is : IsPiece 
       size : length (with_frame done piece) ≡ place + length piece
       size = omega (arith, there, length-append done (1 ∷ frame_of piece), ap length is, length-append (frame_of piece) (0 ∷ []))
 
-      pub front : take (place + length piece) new.content ≡ with_frame done piece
-      front = ap (λ (l : List ℕ). take (place + length piece) l) is_done ∙ take_at (with_frame done piece) (0 ∷ tail) (place + length piece) size
+      pub prefix : take (place + length piece) new.content ≡ with_frame done piece
+      prefix = ap (λ (l : List ℕ). take (place + length piece) l) is_done ∙ take_at (with_frame done piece) (0 ∷ tail) (place + length piece) size
 
       pub at_rest : IsAtRest new (place + length piece)
       at_rest = record {
         within = omega (arith, ap length is_done, size, length-append (with_frame done piece) (0 ∷ tail));
-        ends = record { gate = 0; rest = tail; closed = omega arith; split = is_done ∙ ap (λ (l : List ℕ). l ++ 0 ∷ tail) (sym front) };
+        ends = record { gate = 0; rest = tail; closed = omega arith; split = is_done ∙ ap (λ (l : List ℕ). l ++ 0 ∷ tail) (sym prefix) };
         durable = durable;
       }

@@ -12,11 +12,11 @@ stays_at_rest old new place same rest = record {
 }
 
 -- a file that ends in its closed gate
-pub ends_at_rest : (disk : DiskMeaning) (front : List ℕ) (place : ℕ) → disk.content ≡ front ++ 0 ∷ [] → Only disk.content disk.images → place ≡ length front → IsAtRest disk place
-ends_at_rest disk front place is only at =
-    let there : take place disk.content ≡ front = ap (λ (l : List ℕ). take place l) is ∙ take_at front (0 ∷ []) place (sym at) in
+pub ends_at_rest : (disk : DiskMeaning) (prefix : List ℕ) (place : ℕ) → disk.content ≡ prefix ++ 0 ∷ [] → Only disk.content disk.images → place ≡ length prefix → IsAtRest disk place
+ends_at_rest disk prefix place is only at =
+    let there : take place disk.content ≡ prefix = ap (λ (l : List ℕ). take place l) is ∙ take_at prefix (0 ∷ []) place (sym at) in
     record {
-      within = omega (arith, ap length is, length-append front (0 ∷ []), at);
+      within = omega (arith, ap length is, length-append prefix (0 ∷ []), at);
       ends = record { gate = 0; rest = []; closed = omega arith; split = is ∙ ap (λ (l : List ℕ). l ++ 0 ∷ []) (sym there) };
       durable = only;
     }

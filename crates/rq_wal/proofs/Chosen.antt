@@ -9,15 +9,15 @@ use Rattle.rq_wal.proofs.FilesRead.{number_at}
 use Rattle.rq_wal.proofs.Headers.{shut_header}
 use Rattle.rq_wal.proofs.Opened.{and_true, first_byte, not_short}
 
-number_of_front : (file : List ℕ) → 23 ≤ length file → take 8 (drop 7 (take 23 file)) ≡ take 8 (drop 7 file)
-number_of_front [] le = refl
-number_of_front (a ∷ []) le = refl
-number_of_front (a ∷ b ∷ []) le = refl
-number_of_front (a ∷ b ∷ c ∷ []) le = refl
-number_of_front (a ∷ b ∷ c ∷ d ∷ []) le = refl
-number_of_front (a ∷ b ∷ c ∷ d ∷ e ∷ []) le = refl
-number_of_front (a ∷ b ∷ c ∷ d ∷ e ∷ f ∷ []) le = refl
-number_of_front (a ∷ b ∷ c ∷ d ∷ e ∷ f ∷ g ∷ rest) le = take-take 8 16 rest (omega arith)
+number_of_prefix : (file : List ℕ) → 23 ≤ length file → take 8 (drop 7 (take 23 file)) ≡ take 8 (drop 7 file)
+number_of_prefix [] le = refl
+number_of_prefix (a ∷ []) le = refl
+number_of_prefix (a ∷ b ∷ []) le = refl
+number_of_prefix (a ∷ b ∷ c ∷ []) le = refl
+number_of_prefix (a ∷ b ∷ c ∷ d ∷ []) le = refl
+number_of_prefix (a ∷ b ∷ c ∷ d ∷ e ∷ []) le = refl
+number_of_prefix (a ∷ b ∷ c ∷ d ∷ e ∷ f ∷ []) le = refl
+number_of_prefix (a ∷ b ∷ c ∷ d ∷ e ∷ f ∷ g ∷ rest) le = take-take 8 16 rest (omega arith)
 
 pub is_generation : (file : List ℕ) → 23 ≤ length file → get_or file 0 0 ≡ 1 → generation_of file ≡ Some (number_at file)
 unfolding in_header
@@ -28,7 +28,7 @@ is_generation file le one =
     let gate : nat_eq (get_or header 0 0) 1 ≡ true = ap (λ (n : ℕ). nat_eq n 1) (first_byte file ∙ one) in
     ap (λ (b : Bool). cond b None (cond (nat_eq (get_or header 0 0) 1) value None)) enough
     ∙ ap (λ (b : Bool). cond b value None) gate
-    ∙ ap (λ (l : List ℕ). Some (from_le_bytes w64 l)) (number_of_front file le)
+    ∙ ap (λ (l : List ℕ). Some (from_le_bytes w64 l)) (number_of_prefix file le)
 
 pub no_generation : (file : List ℕ) → get_or file 0 0 ≢ 1 → generation_of file ≡ None
 no_generation file ne = shut_header (take 23 file) (λ one. ne (sym (first_byte file) ∙ one))

@@ -42,8 +42,8 @@ module _ (done rest frame : List ℕ) (g place : ℕ) (closed : g ≢ 1) (is : l
       ∙ ap (λ (l : List ℕ). l ++ behind) (append_assoc done (g ∷ []) piece)
       ∙ append_assoc done (g ∷ piece) behind
 
-  front : take place staged ≡ done
-  front = take_at done (g ∷ (piece ++ behind)) place is
+  prefix : take place staged ≡ done
+  prefix = take_at done (g ∷ (piece ++ behind)) place is
 
   back : drop (place + 1) staged ≡ piece ++ behind
   back = ap (λ (l : List ℕ). drop (place + 1) l) (sym (append_assoc done (g ∷ []) (piece ++ behind))) ∙ drop_at (done ++ g ∷ []) (piece ++ behind) (place + 1) (omega (arith, is, length-append done (g ∷ [])))
@@ -58,7 +58,7 @@ module _ (done rest frame : List ℕ) (g place : ℕ) (closed : g ≢ 1) (is : l
       let gate = get_or c place 0 in
       let long : place < length c = omega (arith, is, torn.no_shorter, length-append done (g ∷ (piece ++ behind))) in
       let tail : drop place c ≡ gate ∷ (piece ++ behind) = drop_more c place 0 long ∙ ap (λ (l : List ℕ). gate ∷ l) (torn.after ∙ back) in
-      let whole : c ≡ done ++ gate ∷ (piece ++ behind) = sym (take-append-drop place c) ∙ ap (λ (l : List ℕ). l ++ drop place c) (torn.before ∙ front) ∙ ap (λ (l : List ℕ). done ++ l) tail in
+      let whole : c ≡ done ++ gate ∷ (piece ++ behind) = sym (take-append-drop place c) ∙ ap (λ (l : List ℕ). l ++ drop place c) (torn.before ∙ prefix) ∙ ap (λ (l : List ℕ). done ++ l) tail in
       elim (cases_eq gate 1) [
         | inl is_open ↦ inr (record { gate = 0; rest = behind; closed = omega arith; split = whole ∙ ap (λ (n : ℕ). done ++ n ∷ (piece ++ behind)) is_open ∙ opened })
         | inr shut ↦ inl (record { gate = gate; rest = piece ++ behind; closed = shut; split = whole })
@@ -67,7 +67,7 @@ module _ (done rest frame : List ℕ) (g place : ℕ) (closed : g ≢ 1) (is : l
   pub written_gate : (c : List ℕ) → Holds staged place (1 ∷ []) c → c ≡ (done ++ 1 ∷ frame) ++ 0 ∷ behind
   written_gate c holds =
       holds
-      ∙ ap (λ (l : List ℕ). l ++ (1 ∷ []) ++ drop (place + 1) staged) front
+      ∙ ap (λ (l : List ℕ). l ++ (1 ∷ []) ++ drop (place + 1) staged) prefix
       ∙ ap (λ (l : List ℕ). done ++ (1 ∷ []) ++ l) back
       ∙ append_assoc done (1 ∷ []) (piece ++ behind)
       ∙ opened

@@ -37,13 +37,13 @@ exact_sized {A} size number Fits one s P sizes exact = record {
       let len = bind_ok (size bytes) (λ n. one n.1 >>= λ x. cond {A = Result (A × List ℕ) DecodeError} (length n.1 == n.0 + length x.1) (Ok x) (Err (Rule (length bytes)))) (a, rest) h in
       let thing = bind_ok (one len.0.1) (λ x. cond {A = Result (A × List ℕ) DecodeError} (length len.0.1 == len.0.0 + length x.1) (Ok x) (Err (Rule (length bytes)))) (a, rest) len.2 in
       let passed = guard_ok (length len.0.1 == len.0.0 + length thing.0.1) thing.0 (a, rest) (Rule (length bytes)) thing.2 in
-      let front = sizes.stood bytes len.0.0 len.0.1 all len.1 in
-      let back = exact.stood len.0.1 a rest front.behind (thing.1 ∙ ap Ok passed.1) in
+      let prefix = sizes.stood bytes len.0.0 len.0.1 all len.1 in
+      let back = exact.stood len.0.1 a rest prefix.behind (thing.1 ∙ ap Ok passed.1) in
       let filled : length len.0.1 ≡ len.0.0 + length rest = eq_true _ _ passed.0 ∙ ap (λ x. len.0.0 + length x.1) passed.1 in
       let fits : len.0.0 ≡ length (s a) = omega (arith, filled, ap length back.is, length-append (s a) rest) in
       record {
-        is = front.is ∙ ap (λ (l : List ℕ). number len.0.0 ++ l) back.is ∙ ap (λ (n : ℕ). number n ++ (s a ++ rest)) fits ∙ sym (append_assoc (number (length (s a))) (s a) rest);
-        proper = (back.proper, subst Fits fits front.proper);
+        is = prefix.is ∙ ap (λ (l : List ℕ). number len.0.0 ++ l) back.is ∙ ap (λ (n : ℕ). number n ++ (s a ++ rest)) fits ∙ sym (append_assoc (number (length (s a))) (s a) rest);
+        proper = (back.proper, subst Fits fits prefix.proper);
         behind = back.behind;
       };
 }

@@ -6,7 +6,7 @@ use Rattle.std.specs.Int.{w64, from_le_bytes}
 use Rattle.std.specs.List.{flat_map}
 use Rattle.rq_values.specs.declared.error.DecodeError.{DecodeError}
 use Rattle.rq_values.specs.declared.error.DecodeError.TheVariants.{Short}
-use Rattle.rq_values.specs.Reading.{◌>>=◌, front_at, u64_at}
+use Rattle.rq_values.specs.Reading.{◌>>=◌, prefix_at, u64_at}
 use Rattle.rq_values.proofs.Local.{not_below}
 use Rattle.rq_values.specs.Spelling.{u64_bytes}
 use Rattle.rq_values.specs.Exact.{AreBytes}
@@ -20,7 +20,7 @@ use Rattle.rq_wal.specs.Current.{IsRead}
 use Rattle.rq_wal.specs.Log.{IsLog, HasLog, ReadsWritten, ReadsNothingElse}
 use Rattle.rq_wal.specs.Reading.{is_magic, is_small, header_fault, leaves_at, unless_, stored_of, file_gives, log_at}
 use Rattle.rq_wal.specs.Replace.{generation_of, is_open}
-use Rattle.rq_wal.specs.Spelling.{base_bytes, body_bytes, front_bytes, gated}
+use Rattle.rq_wal.specs.Spelling.{base_bytes, body_bytes, prefix_bytes, gated}
 use Rattle.rq_wal.specs.Stored.{started}
 use Rattle.rq_wal.specs.WalFile.{wal_end, wal_generation}
 use Rattle.rq_wal.proofs.ExactLog.{Frames, sized_base, log_again, log_stood}
@@ -36,8 +36,8 @@ tail_of first frames gate rest = sized_base first ++ (flat_map gated frames ++ g
 abbrev head_of : List ℕ
 head_of = 1 ∷ 82 ∷ 81 ∷ 87 ∷ 65 ∷ 76 ∷ 1 ∷ []
 
-front_is : (generation : ℕ) (first : Base) (frames : List Frame) (gate : ℕ) (rest : List ℕ) → front_bytes generation first frames ++ gate ∷ rest ≡ head_of ++ (u64_bytes generation ++ tail_of first frames gate rest)
-front_is generation first frames gate rest =
+prefix_is : (generation : ℕ) (first : Base) (frames : List Frame) (gate : ℕ) (rest : List ℕ) → prefix_bytes generation first frames ++ gate ∷ rest ≡ head_of ++ (u64_bytes generation ++ tail_of first frames gate rest)
+prefix_is generation first frames gate rest =
     let number = u64_bytes generation in
     let log = flat_map gated frames in
     ap (λ (l : List ℕ). head_of ++ l)
@@ -52,13 +52,13 @@ header_right number generation tail lt =
     ap (λ (n : ℕ). cond {A = Option OpenError} (is_small n) None (Some (leaves_at number file 7))) reads
     ∙ ap (λ (b : Bool). cond {A = Option OpenError} b None (Some (leaves_at number file 7))) (is_small_by generation lt)
 
-pub header_right_of : (number generation : ℕ) (first : Base) (frames : List Frame) (gate : ℕ) (rest : List ℕ) → generation < 2 ^ 63 → header_fault number (front_bytes generation first frames ++ gate ∷ rest) ≡ None
-header_right_of number generation first frames gate rest lt = ap (header_fault number) (front_is generation first frames gate rest) ∙ header_right number generation (tail_of first frames gate rest) lt
+pub header_right_of : (number generation : ℕ) (first : Base) (frames : List Frame) (gate : ℕ) (rest : List ℕ) → generation < 2 ^ 63 → header_fault number (prefix_bytes generation first frames ++ gate ∷ rest) ≡ None
+header_right_of number generation first frames gate rest lt = ap (header_fault number) (prefix_is generation first frames gate rest) ∙ header_right number generation (tail_of first frames gate rest) lt
 
 pub written : ReadsWritten
 written first generation number gate stored done rest log ne =
     let file = head_of ++ (u64_bytes generation ++ tail_of first log.frames gate rest) in
-    let is : done ++ gate ∷ rest ≡ file = ap (λ (l : List ℕ). l ++ gate ∷ rest) log.is ∙ front_is generation first log.frames gate rest in
+    let is : done ++ gate ∷ rest ≡ file = ap (λ (l : List ℕ). l ++ gate ∷ rest) log.is ∙ prefix_is generation first log.frames gate rest in
     let behind : drop 15 file ≡ tail_of first log.frames gate rest = drop_at (u64_bytes generation) (tail_of first log.frames gate rest) 8 (long_number generation) in
     ap (file_gives first number) is
     ∙ ap (λ (fault : Option OpenError). unless_ fault (stored_of number file (log_at first (drop 15 file)))) (header_right number generation (tail_of first log.frames gate rest) log.small)
@@ -90,7 +90,7 @@ below : (n : ℕ) → is_small n ≡ true → n < 2 ^ 63
 below n h = grind (arith, nat_tests)
 
 u64_is : (l : List ℕ) → 8 ≤ length l → u64_at l ≡ Ok (from_le_bytes w64 (take 8 l), drop 8 l)
-unfolding u64_at front_at
+unfolding u64_at prefix_at
 u64_is l le = ap (λ (b : Bool). cond {A = Result (List ℕ × List ℕ) DecodeError} b (Err (Short 0)) (Ok (take 8 l, drop 8 l)) >>= λ x. Ok (from_le_bytes w64 x.0, x.1)) (not_below (length l) 8 le)
 
 -- the number in a header
@@ -128,8 +128,8 @@ header_read number (a ∷ b ∷ c ∷ d ∷ e ∷ f ∷ g ∷ rest) all is right
     let is_g : g ≡ 1 = is_number g 1 version.0 in
     (below (from_le_bytes w64 (take 8 rest)) small.0, λ i. is_a i ∷ is_b i ∷ is_c i ∷ is_d i ∷ is_e i ∷ is_f i ∷ is_g i ∷ stood.is i)
 
-pub front_generation : (generation : ℕ) (first : Base) (frames : List Frame) (z : List ℕ) → generation < 2 ^ 63 → generation_of (front_bytes generation first frames ++ z) ≡ Some generation
-front_generation generation first frames z lt =
+pub prefix_generation : (generation : ℕ) (first : Base) (frames : List Frame) (z : List ℕ) → generation < 2 ^ 63 → generation_of (prefix_bytes generation first frames ++ z) ≡ Some generation
+prefix_generation generation first frames z lt =
     ap (λ (l : List ℕ). generation_of (1 ∷ l)) (append_assoc (body_bytes generation first) (flat_map gated frames) z) ∙ new_generation generation first (flat_map gated frames ++ z) (omega arith)
 
 -- a file that was read, with the bytes from the closed gate on
@@ -144,12 +144,12 @@ module _ (first : Base) (stored : Stored) (number : ℕ) (file rest : List ℕ) 
   found = stood.1.2
 
   done : List ℕ
-  done = front_bytes (number_at file) first found.frames
+  done = prefix_bytes (number_at file) first found.frames
 
   whole : file ≡ done ++ found.gate ∷ found.behind
   unfolding done
   whole = header.1 ∙ ap (λ (l : List ℕ). head_of ++ (u64_bytes (number_at file) ++ l)) (stood.1.1 ∙ ap (λ (l : List ℕ). sized_base first ++ l) (found.is ∙ ap (λ (l : List ℕ). flat_map gated found.frames ++ l) found.at))
-      ∙ sym (front_is (number_at file) first found.frames found.gate found.behind)
+      ∙ sym (prefix_is (number_at file) first found.frames found.gate found.behind)
 
   log_of : (l : List ℕ) → l ≡ done → IsLog first (number_at file) stored l
   unfolding done
@@ -157,7 +157,7 @@ module _ (first : Base) (stored : Stored) (number : ℕ) (file rest : List ℕ) 
 
   pub generation_is : generation_of file ≡ Some (number_at file)
   unfolding done
-  generation_is = ap generation_of whole ∙ front_generation (number_at file) first found.frames (found.gate ∷ found.behind) header.0
+  generation_is = ap generation_of whole ∙ prefix_generation (number_at file) first found.frames (found.gate ∷ found.behind) header.0
 
   pub has_log : HasLog first stored file
   has_log = record { generation = number_at file; current = generation_is; done = done; log = log_of done refl; ends = record { gate = found.gate; rest = found.behind; closed = found.shut; split = whole } }
@@ -168,11 +168,11 @@ module _ (first : Base) (stored : Stored) (number : ℕ) (file rest : List ℕ) 
   pub is_read : (wal : WalFile) → wal_generation wal ≡ number_at file → wal_end wal ≡ length file - length rest → IsRead first wal stored file
   is_read wal generation end =
       let at : length done ≡ wal_end wal = omega (arith, sizes, end) in
-      let front : take (wal_end wal) file ≡ done = ap (λ (l : List ℕ). take (wal_end wal) l) whole ∙ take_at done (found.gate ∷ found.behind) (wal_end wal) at in
+      let prefix : take (wal_end wal) file ≡ done = ap (λ (l : List ℕ). take (wal_end wal) l) whole ∙ take_at done (found.gate ∷ found.behind) (wal_end wal) at in
       record {
-        log = subst (λ (g : ℕ). IsLog first g stored (take (wal_end wal) file)) (sym generation) (log_of (take (wal_end wal) file) front);
+        log = subst (λ (g : ℕ). IsLog first g stored (take (wal_end wal) file)) (sym generation) (log_of (take (wal_end wal) file) prefix);
         within = omega (arith, at, ap length whole, length-append done (found.gate ∷ found.behind));
-        ends = record { gate = found.gate; rest = found.behind; closed = found.shut; split = whole ∙ ap (λ (l : List ℕ). l ++ found.gate ∷ found.behind) (sym front) };
+        ends = record { gate = found.gate; rest = found.behind; closed = found.shut; split = whole ∙ ap (λ (l : List ℕ). l ++ found.gate ∷ found.behind) (sym prefix) };
       }
 
 pub nothing_else : ReadsNothingElse

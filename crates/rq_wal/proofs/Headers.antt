@@ -20,12 +20,12 @@ short file lt = short_header (take 23 file) (omega (arith, length-take 23 file))
 pub shut : (x : ℕ) (file : List ℕ) → x ≢ 1 → generation_of (x ∷ file) ≡ None
 shut x file ne = shut_header (take 23 (x ∷ file)) ne
 
--- a front of a file is short, or it has the file's generation
-front : (file : List ℕ) (n : ℕ) → n ≤ length file → (generation_of (take n file) ≡ None) ⊎ (generation_of (take n file) ≡ generation_of file)
-front file n le = ⊎_elim (λ lt. inl (short (take n file) (omega (arith, length-take n file)))) (λ ge. inr (ap in_header (take-take 23 n file ge))) (cases_lt n 23)
+-- a prefix of a file is short, or it has the file's generation
+prefix : (file : List ℕ) (n : ℕ) → n ≤ length file → (generation_of (take n file) ≡ None) ⊎ (generation_of (take n file) ≡ generation_of file)
+prefix file n le = ⊎_elim (λ lt. inl (short (take n file) (omega (arith, length-take n file)))) (λ ge. inr (ap in_header (take-take 23 n file ge))) (cases_lt n 23)
 
 pub cut_below : (generation : ℕ) (old file : List ℕ) → IsBelow generation old → Cut 0 old file → IsBelow generation file
-cut_below generation old file below cut = subst (IsBelow generation) cut.front (part (front old (min (length file) (length old)) (omega arith)))
+cut_below generation old file below cut = subst (IsBelow generation) cut.prefix (part (prefix old (min (length file) (length old)) (omega arith)))
   where
     again : take (min (length file) (length old)) old ≡ take (length file) old
     again = take_min (length file) old

@@ -15,8 +15,8 @@ mod LogMore
 mod Moments
 mod Opened
 mod Progress
-mod Quiet
+mod Unchanged
 mod Settled
 mod Since
 mod SpelledRead
-mod Standing
+mod Recovery

@@ -1,4 +1,4 @@
--- A frame is read from the front of the bytes.
+-- A frame is read from the start of the bytes.
 use Rattle.std.proofs.Common.{ℕ, ◌≡◌, ◌≤◌, ◌==◌, List, length, Ok, cond, ap, arith, length-append}
 use Rattle.rq_values.specs.declared.error.DecodeError.TheVariants.{Kind}
 use Rattle.rq_values.specs.Reading.{made, checked, u8_at, u32_at, u64_at, id_at, option_at, many_at, sized_at}
@@ -39,4 +39,4 @@ local_frame stored =
     local_bind (checked u8_at is_kind Kind) (λ kind. sized_at u32_at (payload_at stored kind)) (local_checked u8_at is_kind Kind local_u8) (λ kind. local_sized u32_at (payload_at stored kind) local_u32 (local_payload stored kind))
 
 pub no_longer : (stored : Stored) (bytes : List ℕ) (frame : Frame) (rest : List ℕ) → frame_at stored bytes ≡ Ok (frame, rest) → length rest ≤ length bytes
-no_longer stored bytes frame rest h = let s = local_frame stored bytes frame rest h in omega (arith, ap length s.is, length-append s.front rest)
+no_longer stored bytes frame rest h = let s = local_frame stored bytes frame rest h in omega (arith, ap length s.is, length-append s.prefix rest)

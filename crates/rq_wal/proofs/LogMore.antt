@@ -15,11 +15,11 @@ use Rattle.rq_wal.specs.Current.{IsBehind, IsCurrent, EachSinceGivesSome, file_a
 use Rattle.rq_wal.specs.Gate.{IsAtRest, HasSomeOf}
 use Rattle.rq_wal.specs.Log.{IsLog}
 use Rattle.rq_wal.specs.Rules.{AreAllowed}
-use Rattle.rq_wal.specs.Spelling.{body_bytes, front_bytes, gated}
+use Rattle.rq_wal.specs.Spelling.{body_bytes, prefix_bytes, gated}
 use Rattle.rq_wal.specs.Stored.{started, applied, applied_all}
 use Rattle.rq_wal.specs.WalFile.{wal_file, wal_end, wal_generation}
 use Rattle.rq_wal.proofs.AtRest.{stays_at_rest}
-use Rattle.rq_wal.proofs.Standing.{pair_with}
+use Rattle.rq_wal.proofs.Recovery.{pair_with}
 
 applied_more : (stored : Stored) (frames more : List Frame) → applied_all stored (frames ++ more) ≡ applied_all (applied_all stored frames) more
 applied_more stored [] more = refl
@@ -34,8 +34,8 @@ allowed_take stored frames zero all = tt
 allowed_take stored [] (suc k) all = tt
 allowed_take stored (frame ∷ frames) (suc k) all = (all.0, allowed_take (applied stored frame) frames k all.1)
 
-front_more : (generation : ℕ) (base : Base) (frames more : List Frame) → front_bytes generation base frames ++ flat_map gated more ≡ front_bytes generation base (frames ++ more)
-front_more generation base frames more =
+prefix_more : (generation : ℕ) (base : Base) (frames more : List Frame) → prefix_bytes generation base frames ++ flat_map gated more ≡ prefix_bytes generation base (frames ++ more)
+prefix_more generation base frames more =
     ap (λ (l : List ℕ). 1 ∷ l)
     (append_assoc (body_bytes generation base) (flat_map gated frames) (flat_map gated more)
     ∙ ap (λ (l : List ℕ). body_bytes generation base ++ l) (sym (flat_map-append gated frames more)))
@@ -47,7 +47,7 @@ log_more first generation stored done more log allowed = record {
   folds = applied_more (started first) log.frames more ∙ ap (λ (s : Stored). applied_all s more) log.folds;
   small = log.small;
   fits = log.fits;
-  is = ap (λ (l : List ℕ). l ++ flat_map gated more) log.is ∙ front_more generation first log.frames more;
+  is = ap (λ (l : List ℕ). l ++ flat_map gated more) log.is ∙ prefix_more generation first log.frames more;
 }
 
 module _ {D F : Type 0} (means : D → DiskMeaning) (first : Base) (old new : DiskPair D F) (wal : WalFile) (stored : Stored) (frames : List Frame) (allowed : AreAllowed stored frames) (current : IsCurrent means first old wal stored)

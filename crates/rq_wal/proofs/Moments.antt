@@ -38,7 +38,7 @@ pub torn_same : (at n : ℕ) (c : List ℕ) → Torn at n c c
 torn_same at n c = record { before = refl; after = refl; no_shorter = omega arith; no_longer = omega arith }
 
 pub cut_same : (to : ℕ) (c : List ℕ) → Cut to c c
-cut_same to c = record { no_shorter = omega arith; front = take_all (length c) c (omega arith) }
+cut_same to c = record { no_shorter = omega arith; prefix = take_all (length c) c (omega arith) }
 
 -- an image that a step leads to, from the one image that there was
 pub stepped : (step : List ℕ → List ℕ → Type 0) (old new : DiskMeaning) → Only old.content old.images → Follows step old.images new.images → (c : List ℕ) → new.images c → step old.content c

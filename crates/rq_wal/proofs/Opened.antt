@@ -23,12 +23,12 @@ pub not_short : (header : List ℕ) → 23 ≤ length header → nat_lt (length 
 not_short header le = grind (arith, nat_tests)
 
 -- a header by its parts
-header_reads : (generation : ℕ) (header front number behind : List ℕ) → length front ≡ 7 → length number ≡ 8 → 8 ≤ length behind → get_or front 0 0 ≡ 1 → header ≡ front ++ (number ++ behind) → get_or header 0 0 ≡ 1 → from_le_bytes w64 number ≡ generation → in_header header ≡ Some generation
+header_reads : (generation : ℕ) (header prefix number behind : List ℕ) → length prefix ≡ 7 → length number ≡ 8 → 8 ≤ length behind → get_or prefix 0 0 ≡ 1 → header ≡ prefix ++ (number ++ behind) → get_or header 0 0 ≡ 1 → from_le_bytes w64 number ≡ generation → in_header header ≡ Some generation
 unfolding in_header
-header_reads generation header front number behind seven eight more one is first reads =
-    let enough : nat_lt (length header) 23 ≡ false = not_short header (omega (arith, ap length is, length-append front (number ++ behind), length-append number behind)) in
+header_reads generation header prefix number behind seven eight more one is first reads =
+    let enough : nat_lt (length header) 23 ≡ false = not_short header (omega (arith, ap length is, length-append prefix (number ++ behind), length-append number behind)) in
     let open_gate : nat_eq (get_or header 0 0) 1 ≡ true = ap (λ (n : ℕ). nat_eq n 1) first in
-    let there : take 8 (drop 7 header) ≡ number = ap (λ (l : List ℕ). take 8 (drop 7 l)) is ∙ ap (λ (l : List ℕ). take 8 l) (drop_at front (number ++ behind) 7 seven) ∙ take_at number behind 8 eight in
+    let there : take 8 (drop 7 header) ≡ number = ap (λ (l : List ℕ). take 8 (drop 7 l)) is ∙ ap (λ (l : List ℕ). take 8 l) (drop_at prefix (number ++ behind) 7 seven) ∙ take_at number behind 8 eight in
     ap (λ (b : Bool). cond b None (cond (nat_eq (get_or header 0 0) 1) (Some (from_le_bytes w64 (take 8 (drop 7 header)))) None)) enough
     ∙ ap (λ (b : Bool). cond b (Some (from_le_bytes w64 (take 8 (drop 7 header)))) None) open_gate
     ∙ ap (λ (l : List ℕ). Some (from_le_bytes w64 l)) there ∙ ap Some reads
@@ -37,14 +37,14 @@ pub new_generation : (generation : ℕ) (base : Base) (z : List ℕ) → generat
 new_generation generation base z lt =
     let number = u64_bytes generation in
     let size = u64_bytes (length (base_bytes base)) in
-    let front : List ℕ = 1 ∷ 82 ∷ 81 ∷ 87 ∷ 65 ∷ 76 ∷ 1 ∷ [] in
+    let prefix : List ℕ = 1 ∷ 82 ∷ 81 ∷ 87 ∷ 65 ∷ 76 ∷ 1 ∷ [] in
     let tail = number ++ (size ++ base_bytes base) in
     let rest = base_bytes base ++ z in
     let whole : tail ++ z ≡ number ++ (size ++ rest) = append_assoc number (size ++ base_bytes base) z ∙ ap (λ (l : List ℕ). number ++ l) (append_assoc size (base_bytes base) z) in
     let cut : take 16 (tail ++ z) ≡ number ++ size =
     ap (λ (l : List ℕ). take 16 l) (whole ∙ sym (append_assoc number size rest)) ∙ take_at (number ++ size) rest 16 (omega (arith, length-append number size, long_number generation, long_number (length (base_bytes base)))) in
-    header_reads generation (take 23 (front ++ (tail ++ z))) front number size refl (long_number generation) (omega (arith, long_number (length (base_bytes base)))) refl
-    (ap (λ (l : List ℕ). front ++ l) cut) refl (reads_number generation lt)
+    header_reads generation (take 23 (prefix ++ (tail ++ z))) prefix number size refl (long_number generation) (omega (arith, long_number (length (base_bytes base)))) refl
+    (ap (λ (l : List ℕ). prefix ++ l) cut) refl (reads_number generation lt)
 
 pub and_true : (a b : Bool) → (a && b) ≡ true → (a ≡ true) × (b ≡ true)
 and_true true b h = (refl, h)

@@ -16,12 +16,12 @@ use Rattle.rq_wal.specs.Gate.{IsAtRest}
 use Rattle.rq_wal.specs.Log.{IsLog}
 use Rattle.rq_wal.specs.Reading.{pair_gives}
 use Rattle.rq_wal.specs.Replace.{generation_of, is_open}
-use Rattle.rq_wal.specs.Spelling.{base_bytes, front_bytes, file_bytes}
+use Rattle.rq_wal.specs.Spelling.{base_bytes, prefix_bytes, file_bytes}
 use Rattle.rq_wal.specs.Stored.{stored_after}
 use Rattle.rq_wal.specs.WalFile.{wal_file, wal_end, wal_generation}
 use Rattle.rq_wal.proofs.ImagesNow.{each_given}
 use Rattle.rq_wal.proofs.Moments.{then}
-use Rattle.rq_wal.proofs.Standing.{current_of, closed_gives, images_give, always_kept, always_begun, new_log, ends_generation}
+use Rattle.rq_wal.proofs.Recovery.{current_of, closed_gives, images_give, always_kept, always_begun, new_log, ends_generation}
 use Rattle.rq_wal.proofs.Opened.{closed_file}
 
 abbrev Opened : Type 0
@@ -33,14 +33,14 @@ gives_in first one two None (Ok o) is same new = closed_gives first one two is.0
 gives_in first one two None (Err e) is same new = tt
 
 module _ {D F : Type 0} (means : D → DiskMeaning) (first : Base) where
-  module _ (pair : DiskPair D F) (wal : WalFile) (stored : Stored) (file : wal_file wal ≡ One) (generation : wal_generation wal ≡ 1) (end : wal_end wal ≡ length (front_bytes 1 first [])) (fits : length (base_bytes first) < 2 ^ 64)
+  module _ (pair : DiskPair D F) (wal : WalFile) (stored : Stored) (file : wal_file wal ≡ One) (generation : wal_generation wal ≡ 1) (end : wal_end wal ≡ length (prefix_bytes 1 first [])) (fits : length (base_bytes first) < 2 ^ 64)
       (is : stored ≡ stored_after first []) (written : (means pair.one).content ≡ file_bytes 1 first []) (rest : IsAtRest (means pair.one) (wal_end wal)) (none : generation_of (means pair.two).content ≡ None) (only : Only (means pair.two).content (means pair.two).images) where
-    front : take (wal_end wal) (means pair.one).content ≡ front_bytes 1 first []
-    front = ap (λ (l : List ℕ). take (wal_end wal) l) written ∙ take_at (front_bytes 1 first []) (0 ∷ []) (wal_end wal) (sym end)
+    prefix : take (wal_end wal) (means pair.one).content ≡ prefix_bytes 1 first []
+    prefix = ap (λ (l : List ℕ). take (wal_end wal) l) written ∙ take_at (prefix_bytes 1 first []) (0 ∷ []) (wal_end wal) (sym end)
 
     log : IsLog first (wal_generation wal) stored (take (wal_end wal) (means pair.one).content)
     log = subst (λ (g : ℕ). IsLog first g stored (take (wal_end wal) (means pair.one).content)) (sym generation)
-        (subst (λ (l : List ℕ). IsLog first 1 stored l) (sym front) (subst (λ (s : Stored). IsLog first 1 s (front_bytes 1 first [])) (sym is) (new_log first fits)))
+        (subst (λ (l : List ℕ). IsLog first 1 stored l) (sym prefix) (subst (λ (s : Stored). IsLog first 1 s (prefix_bytes 1 first [])) (sym is) (new_log first fits)))
 
     pub new_current : IsCurrent means first pair wal stored
     new_current = record {
@@ -53,13 +53,13 @@ module _ {D F : Type 0} (means : D → DiskMeaning) (first : Base) where
   pub record IsNew (pair : DiskPair D F) (wal : WalFile) (stored : Stored) : Type 0 where
     pub file : wal_file wal ≡ One
     pub generation : wal_generation wal ≡ 1
-    pub end : wal_end wal ≡ length (front_bytes 1 first [])
+    pub end : wal_end wal ≡ length (prefix_bytes 1 first [])
     pub fits : length (base_bytes first) < 2 ^ 64
     pub is : stored ≡ stored_after first []
     pub written : (means pair.one).content ≡ file_bytes 1 first []
     pub rest : IsAtRest (means pair.one) (wal_end wal)
 
-  pub new_of : (pair : DiskPair D F) (r : Opened) → IfOk r (λ o. wal_file o.0 ≡ One) → IfOk r (λ o. wal_generation o.0 ≡ 1) → IfOk r (λ o. wal_end o.0 ≡ length (front_bytes 1 first [])) → OnOk r (length (base_bytes first) < 2 ^ 64)
+  pub new_of : (pair : DiskPair D F) (r : Opened) → IfOk r (λ o. wal_file o.0 ≡ One) → IfOk r (λ o. wal_generation o.0 ≡ 1) → IfOk r (λ o. wal_end o.0 ≡ length (prefix_bytes 1 first [])) → OnOk r (length (base_bytes first) < 2 ^ 64)
       → IfOk r (λ o. o.1 ≡ stored_after first []) → OnOk r ((means pair.one).content ≡ file_bytes 1 first []) → IfOk r (λ o. IsAtRest (means pair.one) (wal_end o.0)) → IfOk r (λ o. IsNew pair o.0 o.1)
   new_of pair (Ok o) file generation end fits is written rest = record { file = file; generation = generation; end = end; fits = fits; is = is; written = written; rest = rest }
   new_of pair (Err e) file generation end fits is written rest = tt

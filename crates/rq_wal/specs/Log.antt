@@ -8,7 +8,7 @@ use Rattle.rq_wal.specs.Gate.{EndsIn}
 use Rattle.rq_wal.specs.Reading.{file_gives}
 use Rattle.rq_wal.specs.Replace.{generation_of, is_open}
 use Rattle.rq_wal.specs.Rules.{AreAllowed}
-use Rattle.rq_wal.specs.Spelling.{base_bytes, front_bytes}
+use Rattle.rq_wal.specs.Spelling.{base_bytes, prefix_bytes}
 use Rattle.rq_wal.specs.Stored.{started, stored_after}
 
 -- these bytes are an open file up to a frame's gate, with frames that the rules allow, and stand for what is stored
@@ -18,7 +18,7 @@ pub record IsLog (first : Base) (generation : ℕ) (stored : Stored) (done : Lis
   pub folds : stored_after first frames ≡ stored
   pub small : generation < 2 ^ 63
   pub fits : length (base_bytes first) < 2 ^ 64
-  pub is : done ≡ front_bytes generation first frames
+  pub is : done ≡ prefix_bytes generation first frames
 
 -- a file is such a log, and then a closed gate
 pub record HasLog (first : Base) (stored : Stored) (file : List ℕ) : Type 0 where

@@ -47,9 +47,9 @@ abbrev pub body_bytes : ℕ → Base → List ℕ
 body_bytes generation base = (82 ∷ 81 ∷ 87 ∷ 65 ∷ 76 ∷ 1 ∷ []) ++ (u64_bytes generation ++ (u64_bytes (length (base_bytes base)) ++ base_bytes base))
 
 -- an open file up to the gate behind its last frame
-abbrev pub front_bytes : ℕ → Base → List Frame → List ℕ
-front_bytes generation base frames = 1 ∷ (body_bytes generation base ++ flat_map gated frames)
+abbrev pub prefix_bytes : ℕ → Base → List Frame → List ℕ
+prefix_bytes generation base frames = 1 ∷ (body_bytes generation base ++ flat_map gated frames)
 
 -- an open file, with the closed gate at its end
 abbrev pub file_bytes : ℕ → Base → List Frame → List ℕ
-file_bytes generation base frames = front_bytes generation base frames ++ 0 ∷ []
+file_bytes generation base frames = prefix_bytes generation base frames ++ 0 ∷ []

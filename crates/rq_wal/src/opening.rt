@@ -11,7 +11,7 @@ ghost use Rattle.rq_wal.specs.Current.{IsBegun, IsFound, IsCurrent, EachImage, E
 ghost use Rattle.rq_wal.specs.Gate.{IsAtRest};
 ghost use Rattle.rq_wal.specs.Reading.{pair_gives};
 ghost use Rattle.rq_wal.specs.Replace.{is_open, generation_of};
-ghost use Rattle.rq_wal.specs.Spelling.{base_bytes, body_bytes, front_bytes, file_bytes};
+ghost use Rattle.rq_wal.specs.Spelling.{base_bytes, body_bytes, prefix_bytes, file_bytes};
 ghost use Rattle.rq_wal.specs.Stored.{IsBase, stored_after};
 ghost use Rattle.rq_wal.specs.WalFile.{wal_file, wal_end, wal_generation};
 
@@ -48,7 +48,7 @@ pub fn open<D: Disk>(
     ensures stored { IsTrue D.told → is_open (D.means (disk_at disks.old FileNo.One)).content ≡ false → is_open (D.means (disk_at disks.old FileNo.Two)).content ≡ false → IfOk result (λ opened. opened.1 ≡ stored_after first.now []) }
     ensures file { IsTrue D.told → is_open (D.means (disk_at disks.old FileNo.One)).content ≡ false → is_open (D.means (disk_at disks.old FileNo.Two)).content ≡ false → IfOk result (λ opened. wal_file opened.0 ≡ FileNo.One) }
     ensures generation { IsTrue D.told → is_open (D.means (disk_at disks.old FileNo.One)).content ≡ false → is_open (D.means (disk_at disks.old FileNo.Two)).content ≡ false → IfOk result (λ opened. wal_generation opened.0 ≡ 1) }
-    ensures end { IsTrue D.told → is_open (D.means (disk_at disks.old FileNo.One)).content ≡ false → is_open (D.means (disk_at disks.old FileNo.Two)).content ≡ false → IfOk result (λ opened. wal_end opened.0 ≡ length (front_bytes 1 first.now [])) }
+    ensures end { IsTrue D.told → is_open (D.means (disk_at disks.old FileNo.One)).content ≡ false → is_open (D.means (disk_at disks.old FileNo.Two)).content ≡ false → IfOk result (λ opened. wal_end opened.0 ≡ length (prefix_bytes 1 first.now [])) }
     ensures written { IsTrue D.told → is_open (D.means (disk_at disks.old FileNo.One)).content ≡ false → is_open (D.means (disk_at disks.old FileNo.Two)).content ≡ false → OnOk result ((D.means (disk_at disks.new FileNo.One)).content ≡ file_bytes 1 first.now []) }
     ensures at_rest { IfOk result (λ opened. IsTrue D.told → IsAtRest (D.means (disk_at disks.new (wal_file opened.0))) (wal_end opened.0)) }
     ensures cause { IsErrOf result errors.Disk → PairRose D.means disks.old disks.new }
@@ -75,7 +75,7 @@ fn settle<D: Disk>(
     ensures stored { found ≡ None → IfOk result (λ opened. opened.1 ≡ stored_after first.now []) }
     ensures file { found ≡ None → IfOk result (λ opened. wal_file opened.0 ≡ FileNo.One) }
     ensures generation { found ≡ None → IfOk result (λ opened. wal_generation opened.0 ≡ 1) }
-    ensures end { found ≡ None → IfOk result (λ opened. wal_end opened.0 ≡ length (front_bytes 1 first.now [])) }
+    ensures end { found ≡ None → IfOk result (λ opened. wal_end opened.0 ≡ length (prefix_bytes 1 first.now [])) }
     ensures fits { found ≡ None → OnOk result (length (base_bytes first.now) < 2 ^ 64) }
     ensures written { IsTrue D.told → found ≡ None → OnOk result ((D.means (disk_at disks.new FileNo.One)).content ≡ file_bytes 1 first.now []) }
     ensures at_rest { IsTrue D.told → found ≡ None → IfOk result (λ opened. IsAtRest (D.means (disk_at disks.new FileNo.One)) (wal_end opened.0)) }
@@ -128,7 +128,7 @@ fn begin<D: Disk>(
     ensures stored { IfOk result (λ opened. opened.1 ≡ stored_after first.now []) }
     ensures file { IfOk result (λ opened. wal_file opened.0 ≡ FileNo.One) }
     ensures generation { IfOk result (λ opened. wal_generation opened.0 ≡ 1) }
-    ensures end { IfOk result (λ opened. wal_end opened.0 ≡ length (front_bytes 1 first.now [])) }
+    ensures end { IfOk result (λ opened. wal_end opened.0 ≡ length (prefix_bytes 1 first.now [])) }
     ensures fits { OnOk result (length (base_bytes first.now) < 2 ^ 64) }
     ensures written { IsTrue D.told → OnOk result ((D.means (disk_at disks.new FileNo.One)).content ≡ file_bytes 1 first.now []) }
     ensures at_rest { IfOk result (λ opened. IsTrue D.told → IsAtRest (D.means (disk_at disks.new FileNo.One)) (wal_end opened.0)) }

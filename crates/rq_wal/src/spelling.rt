@@ -1,6 +1,6 @@
 //! The bytes of bases and frames.
 ghost use Rattle.std.specs.Prelude.{◌≡◌, ◌∷◌, [], ◌++◌, map, IfOk, OnOk, OnErr};
-ghost use Rattle.rq_values.specs.Writing.{KeepsFront};
+ghost use Rattle.rq_values.specs.Writing.{KeepsPrefix};
 ghost use Rattle.rq_wal.specs.Spelling.{own_bytes, snapshot_bytes, base_bytes, payload_bytes, kind_of, piece_of, body_bytes};
 
 use crate::base::Base;
@@ -20,7 +20,7 @@ impl Encode for Base {
 /// What the node knows of itself.
 fn put_own(base: &Base, into: &mut Vec<u8>) -> Result<(), NoMemory>
     ensures ok { OnOk result (into.new.items ≡ into.old.items ++ own_bytes base.now) }
-    ensures err { OnErr result (KeepsFront into.old.items into.new.items) }
+    ensures err { OnErr result (KeepsPrefix into.old.items into.new.items) }
 {
     put_u64(base.term, into)?;
     put_option(&base.vote, into)?;
@@ -30,7 +30,7 @@ fn put_own(base: &Base, into: &mut Vec<u8>) -> Result<(), NoMemory>
 /// What stands for the log.
 fn put_snapshot(base: &Base, into: &mut Vec<u8>) -> Result<(), NoMemory>
     ensures ok { OnOk result (into.new.items ≡ into.old.items ++ snapshot_bytes base.now) }
-    ensures err { OnErr result (KeepsFront into.old.items into.new.items) }
+    ensures err { OnErr result (KeepsPrefix into.old.items into.new.items) }
 {
     put_u64(base.index, into)?;
     put_u64(base.last_term, into)?;

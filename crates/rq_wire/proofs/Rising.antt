@@ -13,14 +13,14 @@ use Rattle.rq_wire.specs.Reading.{id_after, member_rest, member_after, config_at
 
 -- ---- a list that is looked at
 
-at_end : {A : Type 0} (front : List A) (x : A) → slice_get (front ++ x ∷ []) (length front) ≡ Some x
+at_end : {A : Type 0} (prefix : List A) (x : A) → slice_get (prefix ++ x ∷ []) (length prefix) ≡ Some x
 at_end [] x = refl
-at_end (y ∷ front) x = at_end front x
+at_end (y ∷ prefix) x = at_end prefix x
 
-last_push : {A : Type 0} (front : List A) (x : A) → last_of (front ++ x ∷ []) ≡ Some x
-last_push front x =
-    let place : length (front ++ x ∷ []) - 1 ≡ length front = omega (arith, length-append front (x ∷ [])) in
-    ap (slice_get (front ++ x ∷ [])) place ∙ at_end front x
+last_push : {A : Type 0} (prefix : List A) (x : A) → last_of (prefix ++ x ∷ []) ≡ Some x
+last_push prefix x =
+    let place : length (prefix ++ x ∷ []) - 1 ≡ length prefix = omega (arith, length-append prefix (x ∷ [])) in
+    ap (slice_get (prefix ++ x ∷ [])) place ∙ at_end prefix x
 
 -- what is left to look at, from a place on
 abbrev pub left_from : ℕ → List Member → Bool

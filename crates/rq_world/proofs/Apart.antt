@@ -33,7 +33,7 @@ use Rattle.rq_world.proofs.Given.{Given}
 use Rattle.rq_world.proofs.Waits.{Waits, AllWait, IsRead, AllRead}
 use Rattle.rq_world.proofs.Answering.{Counts, results_count, sequence_counts, note_both, HasReading, IsQuick, IsBegun, IsNext, IsDue, Source, Own, Next, Due, act_gives}
 use Rattle.rq_world.specs.Laws.{Runs, Leads}
-use Rattle.rq_world.proofs.Prefixes.{begins_get, get_within, front_begins}
+use Rattle.rq_world.proofs.Prefixes.{begins_get, get_within, prefix_begins}
 use Rattle.rq_world.proofs.Histories.{RightNote, all_get, right_op, op_kept}
 use Rattle.rq_world.proofs.Safety.{here, done, sim_of, was_in, grows}
 use Rattle.rq_world.proofs.Simulation.{Choice, before_event, was_at}
@@ -171,7 +171,7 @@ module _ (g : Given) (known : Known g) where
 
   -- what stood in the one log stands there
   pub stands_on : (run : Events) (e : Event) (k : ℕ) (x : LogEntry) → slice_get (chosen g.first run) k ≡ Some x → slice_get (chosen g.first (Then run e)) k ≡ Some x
-  stands_on run e k x at = begins_get (chosen g.first run) (chosen g.first (Then run e)) k (front_begins (chosen g.first run) (chosen g.first (Then run e)) (grows g run e)) (get_within (chosen g.first run) k x at) ∙ at
+  stands_on run e k x at = begins_get (chosen g.first run) (chosen g.first (Then run e)) k (prefix_begins (chosen g.first run) (chosen g.first (Then run e)) (grows g run e)) (get_within (chosen g.first run) k x at) ∙ at
 
   same_entry : (run : Events) (e : Event) (k : ℕ) (x y : LogEntry) → slice_get (chosen g.first run) k ≡ Some x → slice_get (chosen g.first (Then run e)) k ≡ Some y → x ≡ y
   same_entry run e k x y a b = some x y (sym (stands_on run e k x a) ∙ b)

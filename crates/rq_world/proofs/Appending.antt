@@ -424,9 +424,9 @@ module _ (g : Given) (known : Known g) (later : Rattle.rq_history.specs.Laws.Lat
           let f : Refines log_entries h.history x.who y.node.raft = subst (λ (i : NodeId). Refines log_entries h.history i y.node.raft) (sym who) (fits_in g y.before y.who y.node y.runs) in
           let before : WasBefore h.history x.who (history_node tx.node.raft) (history_node y.node.raft) = subst (λ (z : HistoryNode LogEntry). WasBefore h.history x.who (history_node tx.node.raft) z) f.is ((g.moments h.history x.who).2 (history_node tx.node.raft) was) in
           let k = grown_at run number term index position x in
-          let front = (g.leaders_grow (voters g.first) h.history h.fit.lawful x.who (history_node tx.node.raft) (history_node y.node.raft) before (ap role_of k.still) (ap role_of ly.role) (k.same ∙ lx.in_term ∙ sym ly.in_term)).0 in
+          let first_part = (g.leaders_grow (voters g.first) h.history h.fit.lawful x.who (history_node tx.node.raft) (history_node y.node.raft) before (ap role_of k.still) (ap role_of ly.role) (k.same ∙ lx.in_term ∙ sym ly.in_term)).0 in
           let l : length tx.node.raft.log ≡ length x.node.raft.log + 1 = ap length x.longer ∙ length-append x.node.raft.log (x.entry ∷ []) in
-          let le = sym (length-take (length tx.node.raft.log) y.node.raft.log) ∙ ap length front in
+          let le = sym (length-take (length tx.node.raft.log) y.node.raft.log) ∙ ap length first_part in
           omega (arith, l, le, x.at, y.at)
 
   pub apart : (run : Events) → IsNumbered g.first run → (number other term index position : ℕ) → IsAppended g.first run number term index position → IsAppended g.first run other term index position → number ≡ other

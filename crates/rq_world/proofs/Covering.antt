@@ -41,10 +41,10 @@ get_both [] b k q e = inr (k, e)
 get_both (x ∷ a) b zero q e = inl e
 get_both (x ∷ a) b (suc k) q e = get_both a b k q e
 
-get_front : (a b : List (Packet LogEntry)) (k : ℕ) (q : Packet LogEntry) → slice_get a k ≡ Some q → slice_get (a ++ b) k ≡ Some q
-get_front [] b k q e = absurd (cc)
-get_front (x ∷ a) b zero q e = e
-get_front (x ∷ a) b (suc k) q e = get_front a b k q e
+get_prefix : (a b : List (Packet LogEntry)) (k : ℕ) (q : Packet LogEntry) → slice_get a k ≡ Some q → slice_get (a ++ b) k ≡ Some q
+get_prefix [] b k q e = absurd (cc)
+get_prefix (x ∷ a) b zero q e = e
+get_prefix (x ∷ a) b (suc k) q e = get_prefix a b k q e
 
 signed_at : (n : RaftNode LogEntry) (d : Option (Packet LogEntry)) (ps : List (Packet LogEntry)) (k : ℕ) (q : Packet LogEntry) → AllSigned n d ps → slice_get ps k ≡ Some q → IsSigned n d q
 signed_at n d [] k q a e = absurd (cc)
@@ -297,7 +297,7 @@ module _ (g : Given) (known : Known g) where
         lift : (probe : ℕ) (term : ℕ) → (probe ≡ 0) ⊎ ((j : ℕ) × (x : Packet LogEntry) × (slice_get (world g.first run).sent j ≡ Some x) × (x.term ≡ term) × HasProbe x.message probe)
             → (probe ≡ 0) ⊎ ((j : ℕ) × (x : Packet LogEntry) × (slice_get (world g.first (Then run e)).sent j ≡ Some x) × (x.term ≡ term) × HasProbe x.message probe)
         lift probe term (inl z) = inl z
-        lift probe term (inr x) = inr (x.0, x.1, subst (λ (ps : List (Packet LogEntry)). slice_get ps x.0 ≡ Some x.1) (sym sent_is) (get_front (world g.first run).sent t.packets x.0 x.1 x.2), x.3, x.4)
+        lift probe term (inr x) = inr (x.0, x.1, subst (λ (ps : List (Packet LogEntry)). slice_get ps x.0 ≡ Some x.1) (sym sent_is) (get_prefix (world g.first run).sent t.packets x.0 x.1 x.2), x.3, x.4)
 
         replied : (probe : ℕ) (q : Packet LogEntry) → q.term ≡ t.node.raft.term → (d : Option (Packet LogEntry)) → pr.delivered ≡ d → Replies t.node.raft d probe → (j : ℕ) × (x : Packet LogEntry) × (slice_get (world g.first run).sent j ≡ Some x) × (x.term ≡ q.term) × HasProbe x.message probe
         replied probe q term None is r = absurd r

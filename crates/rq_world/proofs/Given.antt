@@ -2,7 +2,7 @@
 use Rattle.std.specs.Prelude.{List}
 use Rattle.rq_wire.specs.declared.config.Member.{Member}
 use Rattle.rq_history.specs.History.{History}
-use Rattle.rq_history.specs.Laws.{OneLeaderATerm, LogsMatch, LeadersGrow, CommitsAreBacked, CommittedStays, CommittedFrontsAgree, MomentsAreOrdered, IsRun}
+use Rattle.rq_history.specs.Laws.{OneLeaderATerm, LogsMatch, LeadersGrow, CommitsAreBacked, CommittedStays, CommittedPrefixesAgree, MomentsAreOrdered, IsRun}
 use Rattle.rq_raft.specs.Entries.{entry_view, voters}
 use Rattle.rq_raft.specs.Laws.{AreMoves}
 use Rattle.rq_world.specs.declared.log_entry.LogEntry.{LogEntry}
@@ -16,7 +16,7 @@ pub record Given : Type 0 where
   pub leaders_grow : LeadersGrow (entry_view log_entries)
   pub commits_are_backed : CommitsAreBacked (entry_view log_entries)
   pub committed_stays : CommittedStays (entry_view log_entries)
-  pub fronts_agree : CommittedFrontsAgree (entry_view log_entries)
+  pub prefixes_agree : CommittedPrefixesAgree (entry_view log_entries)
   pub moments : MomentsAreOrdered LogEntry
 
 abbrev pub Run : Given → History LogEntry → Type 0

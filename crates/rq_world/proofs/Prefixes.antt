@@ -19,13 +19,13 @@ module _ {T : Type 0} where
   pub begins_take : (n : ℕ) (xs : List T) → IsPrefix (take n xs) xs
   begins_take n xs = (drop n xs, take-append-drop n xs)
 
-  get_front : (a r : List T) (k : ℕ) → k < length a → slice_get (a ++ r) k ≡ slice_get a k
-  get_front [] r k lt = absurd (omega (arith, lt))
-  get_front (x ∷ a) r zero lt = refl
-  get_front (x ∷ a) r (suc k) lt = get_front a r k (omega (arith, lt))
+  get_prefix : (a r : List T) (k : ℕ) → k < length a → slice_get (a ++ r) k ≡ slice_get a k
+  get_prefix [] r k lt = absurd (omega (arith, lt))
+  get_prefix (x ∷ a) r zero lt = refl
+  get_prefix (x ∷ a) r (suc k) lt = get_prefix a r k (omega (arith, lt))
 
   pub begins_get : (a b : List T) (k : ℕ) → IsPrefix a b → k < length a → slice_get b k ≡ slice_get a k
-  begins_get a b k (r, is) lt = ap (λ (l : List T). slice_get l k) (sym is) ∙ get_front a r k lt
+  begins_get a b k (r, is) lt = ap (λ (l : List T). slice_get l k) (sym is) ∙ get_prefix a r k lt
 
   pub begins_take_same : (a b : List T) (n : ℕ) → IsPrefix a b → n ≤ length a → take n b ≡ take n a
   begins_take_same a b n (r, is) le = ap (take n) (sym is) ∙ take-append-le n a r le
@@ -35,7 +35,7 @@ module _ {T : Type 0} where
   begins_in (x ∷ a) r zero le = absurd (omega (arith, le))
   begins_in (x ∷ a) r (suc n) le = let rest = begins_in a r n (omega (arith, le)) in (rest.0, ap (λ (l : List T). x ∷ l) rest.1)
 
-  -- of two fronts of a list the longer begins with the shorter
+  -- of two prefixes of a list the longer begins with the shorter
   pub begins_both : (a b : List T) (n : ℕ) → IsPrefix a b → length a ≤ n → IsPrefix a (take n b)
   begins_both a b n (r, is) le = subst (λ (l : List T). IsPrefix a (take n l)) is (begins_in a r n le)
 
@@ -64,5 +64,5 @@ pub replayed_on : (database : Database) (a b : List LogEntry) → replayed datab
 replayed_on database [] b = refl
 replayed_on database (entry ∷ a) b = replayed_on (database_after database entry.content) a b
 
-pub front_begins : {T : Type 0} (a b : List T) → take (length a) b ≡ a → IsPrefix a b
-front_begins a b f = (drop (length a) b, ap (λ l. l ++ drop (length a) b) (sym f) ∙ take-append-drop (length a) b)
+pub prefix_begins : {T : Type 0} (a b : List T) → take (length a) b ≡ a → IsPrefix a b
+prefix_begins a b f = (drop (length a) b, ap (λ l. l ++ drop (length a) b) (sym f) ∙ take-append-drop (length a) b)

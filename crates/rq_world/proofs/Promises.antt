@@ -11,7 +11,7 @@ use Rattle.rq_engine.specs.Database.{Database}
 use Rattle.rq_engine.specs.Command.{execute_bytes}
 use Rattle.rq_world.specs.Commands.{strong_query_bytes}
 use Rattle.rq_engine.specs.Meaning.{answers}
-use Rattle.rq_history.specs.History.{NodeId, IsFront}
+use Rattle.rq_history.specs.History.{NodeId, IsPrefixOf}
 use Rattle.rq_raft.specs.declared.role.Role.{Role}
 use Rattle.rq_raft.specs.declared.role.Role.TheVariants.{Follower, Candidate, Leader}
 use Rattle.rq_raft.specs.Node.{RaftNode, Message, VoteAsk, VoteSay, Append, AppendSay, Install, InstallSay, Packet, unchanged as raft_quiet, StoredRecord, Persistent, persistent_after, RaftTurn, is_leader, one_of}
@@ -32,8 +32,8 @@ use Rattle.rq_world.specs.World.{Op, Write, Queue, Read, Note, Asked, NodeState,
 use Rattle.rq_world.specs.Promise.{replica, IsPrefix, op_of, IsValue, IsResults, IsRight, number_of, asked_in, IsNew, IsNumbered, EachMomentIsKept}
 use Rattle.rq_world.proofs.Tests.{if_case, and_true, lt_true, id_true, id_self}
 use Rattle.rq_world.proofs.Given.{Given}
-use Rattle.rq_world.proofs.Safety.{here, done, fits, been_fronts, HasBeen, grows, holds}
-use Rattle.rq_world.proofs.Prefixes.{begins_same, begins_more, begins_take, front_begins, get_last}
+use Rattle.rq_world.proofs.Safety.{here, done, fits, been_prefixes, HasBeen, grows, holds}
+use Rattle.rq_world.proofs.Prefixes.{begins_same, begins_more, begins_take, prefix_begins, get_last}
 use Rattle.rq_world.proofs.Histories.{RightNote, AllRight, all_get, all_both, all_more, op_behind, places_both}
 use Rattle.rq_world.proofs.Waits.{entry_of, AllWait, AllHeld, held_more, held_both, held_late, held_take, held_drop, Ascends, ascends_late, ascends_left, ascends_both, batch_from, batch_ascends, lists_of, batch_wait, wait_more, wait_both, wait_left, wait_late, read_late, late_right, AllRead, read_more, read_both, read_left, due_right, lost_right, folds, answers_right}
 
@@ -53,18 +53,18 @@ module _ (g : Given) (lead_on : LeadOn log_entries g.first) where
     pub serve : (i : NodeId) (n : Node) → (world g.first run).nodes i ≡ Running n → Serves (world g.first run).book n
     pub right : AllRight (chosen g.first run) (world g.first run).book (world g.first run).book
 
-  -- ---- fronts
+  -- ---- prefixes
 
   less : (a b : List LogEntry) (n m : ℕ) → m ≤ n → take n a ≡ take n b → take m a ≡ take m b
   less a b n m le e = sym (take-take m n a le) ∙ ap (take m) e ∙ take-take m n b le
 
   -- what was applied before stands
-  same_front : (run : Events) (e : Event) (i : NodeId) (n m : Node) → (world g.first run).nodes i ≡ Running n → (world g.first (Then run e)).nodes i ≡ Running m → (k : ℕ) → k ≤ n.raft.commit → k ≤ m.raft.commit → take k m.raft.log ≡ take k n.raft.log
-  same_front run e i n m up up2 k a b = ⊎_elim
+  same_prefix : (run : Events) (e : Event) (i : NodeId) (n m : Node) → (world g.first run).nodes i ≡ Running n → (world g.first (Then run e)).nodes i ≡ Running m → (k : ℕ) → k ≤ n.raft.commit → k ≤ m.raft.commit → take k m.raft.log ≡ take k n.raft.log
+  same_prefix run e i n m up up2 k a b = ⊎_elim
       (λ (lt : y.commit < x.commit). both y.log x.log y.commit x.commit b (omega arith) ly
-      (been_fronts g (Then run e) (take y.commit y.log) (take x.commit x.log) new old (omega (arith, ly, lx, lt))))
+      (been_prefixes g (Then run e) (take y.commit y.log) (take x.commit x.log) new old (omega (arith, ly, lx, lt))))
       (λ (ge : x.commit ≤ y.commit). sym (both x.log y.log x.commit y.commit a ge lx
-      (been_fronts g (Then run e) (take x.commit x.log) (take y.commit y.log) old new (omega (arith, lx, ly, ge)))))
+      (been_prefixes g (Then run e) (take x.commit x.log) (take y.commit y.log) old new (omega (arith, lx, ly, ge)))))
       (cases_lt y.commit x.commit)
     where
       x : RaftNode LogEntry
@@ -85,7 +85,7 @@ module _ (g : Given) (lead_on : LeadOn log_entries g.first) where
       ly : length (take y.commit y.log) ≡ y.commit
       ly = length-take-le y.commit y.log (fits g (Then run e) (Then run e) (here g (Then run e)) i m up2)
 
-      both : (p q : List LogEntry) (c d : ℕ) → k ≤ c → c ≤ d → length (take c p) ≡ c → IsFront (take c p) (take d q) → take k p ≡ take k q
+      both : (p q : List LogEntry) (c d : ℕ) → k ≤ c → c ≤ d → length (take c p) ≡ c → IsPrefixOf (take c p) (take d q) → take k p ≡ take k q
       both p q c d kc cd lp f =
           let f2 : take c (take d q) ≡ take c p = ap (λ (m : ℕ). take m (take d q)) (sym lp) ∙ f in
           let f3 : take c q ≡ take c p = sym (take-take c d q cd) ∙ f2 in
@@ -105,8 +105,8 @@ module _ (g : Given) (lead_on : LeadOn log_entries g.first) where
     pub up : (world g.first run).nodes i ≡ Running node
     pub raft : node.raft ≡ x
 
-  up_front : (run : Events) (e : Event) (i : NodeId) (n : Node) (x : RaftNode LogEntry) → (world g.first run).nodes i ≡ Running n → IsUp (Then run e) i x → (k : ℕ) → k ≤ n.raft.commit → k ≤ x.commit → take k x.log ≡ take k n.raft.log
-  up_front run e i n x up u k a b = subst (λ (y : RaftNode LogEntry). k ≤ y.commit → take k y.log ≡ take k n.raft.log) u.raft (λ c. same_front run e i n u.node up u.up k a c) b
+  up_prefix : (run : Events) (e : Event) (i : NodeId) (n : Node) (x : RaftNode LogEntry) → (world g.first run).nodes i ≡ Running n → IsUp (Then run e) i x → (k : ℕ) → k ≤ n.raft.commit → k ≤ x.commit → take k x.log ≡ take k n.raft.log
+  up_prefix run e i n x up u k a b = subst (λ (y : RaftNode LogEntry). k ≤ y.commit → take k y.log ≡ take k n.raft.log) u.raft (λ c. same_prefix run e i n u.node up u.up k a c) b
 
   pub up_chosen : (run : Events) (i : NodeId) (x : RaftNode LogEntry) (k : ℕ) → one_of (members g.first) i ≡ true → IsUp run i x → k ≤ x.commit → take k (chosen g.first run) ≡ take k x.log × (k ≤ length (chosen g.first run))
   up_chosen run i x k m u le = subst (λ (y : RaftNode LogEntry). k ≤ y.commit → take k (chosen g.first run) ≡ take k y.log × (k ≤ length (chosen g.first run))) u.raft (λ c. in_chosen run i u.node k m u.up c) le
@@ -158,9 +158,9 @@ module _ (g : Given) (lead_on : LeadOn log_entries g.first) where
     abbrev Performs : Turn → Type 0
     Performs t = IsUp (next run i a) i t.node.raft → Did t
 
-    -- where as much was applied before and after, the applied front is the same
+    -- where as much was applied before and after, the applied first_part is the same
     same_applied : (t : Turn) → IsUp (next run i a) i t.node.raft → t.node.raft.applied ≡ n.raft.applied → take n.raft.applied t.node.raft.log ≡ take n.raft.applied n.raft.log
-    same_applied t u e = up_front run (At i a) i n t.node.raft up u n.raft.applied (done g run i n up) (subst (λ (k : ℕ). k ≤ t.node.raft.commit) e (up_done (next run i a) i t.node.raft u))
+    same_applied t u e = up_prefix run (At i a) i n t.node.raft up u n.raft.applied (done g run i n up) (subst (λ (k : ℕ). k ≤ t.node.raft.commit) e (up_done (next run i a) i t.node.raft u))
 
     same_database : (t : Turn) → IsUp (next run i a) i t.node.raft → t.node.raft.applied ≡ n.raft.applied → n.database ≡ replica (take t.node.raft.applied t.node.raft.log)
     same_database t u e = s.database ∙ ap replica (sym (same_applied t u e)) ∙ ap (λ (k : ℕ). replica (take k t.node.raft.log)) (sym e)
@@ -614,7 +614,7 @@ module _ (g : Given) (lead_on : LeadOn log_entries g.first) where
       record {
         members_only = λ j m up. (nodes j m (sym (ap (λ (x : World). x.nodes j) is) ∙ up)).0;
         serve = λ j m up. subst (λ (b : List Note). Serves b m) (sym book_is) (nodes j m (sym (ap (λ (x : World). x.nodes j) is) ∙ up)).1;
-        right = subst (λ (b : List Note). AllRight d b b) (sym book_is) (all_both d (old ++ more) old more (all_more c d old more old (front_begins c d (grows g run e)) s.right) noted);
+        right = subst (λ (b : List Note). AllRight d b b) (sym book_is) (all_both d (old ++ more) old more (all_more c d old more old (prefix_begins c d (grows g run e)) s.right) noted);
       }
 
   -- each node that runs ran before
@@ -719,8 +719,8 @@ module _ (g : Given) (lead_on : LeadOn log_entries g.first) where
   sound First numbered = record { members_only = λ i n up. absurd (cc); serve = λ i n up. absurd (cc); right = tt }
   sound (Then run e) numbered = step run e (sound run numbered.0) numbered.1
 
-  front_in : (a b : List LogEntry) (k : ℕ) → take k b ≡ take k a → IsPrefix (take k a) b
-  front_in a b k e = subst (λ (l : List LogEntry). IsPrefix l b) e (begins_take k b)
+  prefix_in : (a b : List LogEntry) (k : ℕ) → take k b ≡ take k a → IsPrefix (take k a) b
+  prefix_in a b k e = subst (λ (l : List LogEntry). IsPrefix l b) e (begins_take k b)
 
   pub each_moment_is_kept : EachMomentIsKept g.first
   each_moment_is_kept run numbered =
@@ -730,8 +730,8 @@ module _ (g : Given) (lead_on : LeadOn log_entries g.first) where
             let member = s.members_only i n up in
             let d = done g run i n up in
             record {
-              applied = front_in n.raft.log (chosen g.first run) n.raft.applied ((in_chosen run i n n.raft.applied member up d).0);
-              committed = front_in n.raft.log (chosen g.first run) n.raft.commit ((in_chosen run i n n.raft.commit member up (omega arith)).0);
+              applied = prefix_in n.raft.log (chosen g.first run) n.raft.applied ((in_chosen run i n n.raft.applied member up d).0);
+              committed = prefix_in n.raft.log (chosen g.first run) n.raft.commit ((in_chosen run i n n.raft.commit member up (omega arith)).0);
               database = (s.serve i n up).database;
             };
         right = λ k number say place at. subst (RightNote (chosen g.first run) (world g.first run).book) at (all_get (chosen g.first run) (world g.first run).book (world g.first run).book k s.right);

@@ -3,7 +3,7 @@ use Rattle.std.proofs.Common.{◌≡◌, ◌⊎◌, ℕ, ◌≤◌, Bool, true, 
 use Rattle.std.specs.Prelude.{nat_lt, fold, bytes_eq, map}
 use Rattle.std.proofs.lemmas.List.{length-take-le}
 use Rattle.rq_wire.specs.declared.config.Member.{Member}
-use Rattle.rq_history.specs.History.{NodeId, Was, Led, IsFront}
+use Rattle.rq_history.specs.History.{NodeId, Was, Led, IsPrefixOf}
 use Rattle.rq_raft.specs.Entries.{voters}
 use Rattle.rq_raft.specs.Node.{Message, Append, one_of}
 use Rattle.rq_raft.specs.Truth.{role_of, history_node, MessageIsTrue, Refines}
@@ -72,29 +72,29 @@ module _ (g : Given) where
     pub runs : Runs g.first moment who node
     pub same : log ≡ take node.raft.commit node.raft.log
 
-  pub been_fronts : (run : Events) (a b : List LogEntry) → HasBeen run a → HasBeen run b → length a ≤ length b → IsFront a b
-  been_fronts run a b x y le =
+  pub been_prefixes : (run : Events) (a b : List LogEntry) → HasBeen run a → HasBeen run b → length a ≤ length b → IsPrefixOf a b
+  been_prefixes run a b x y le =
       let m = x.node.raft in
       let n = y.node.raft in
       let la = length-take-le m.commit m.log (fits run x.moment x.past x.who x.node x.runs) in
       let lb = length-take-le n.commit n.log (fits run y.moment y.past y.who y.node y.runs) in
-      let f = g.fronts_agree (voters g.first) (sim_of run).history (sim_of run).fit.lawful x.who y.who (history_node m) (history_node n) (was_in run x.moment x.past x.who x.node x.runs) (was_in run y.moment y.past y.who y.node y.runs)
+      let f = g.prefixes_agree (voters g.first) (sim_of run).history (sim_of run).fit.lawful x.who y.who (history_node m) (history_node n) (was_in run x.moment x.past x.who x.node x.runs) (was_in run y.moment y.past y.who y.node y.runs)
       (omega (arith, la, lb, le, ap length x.same, ap length y.same)) in
-      subst (λ (l : List LogEntry). IsFront l b) (sym x.same) (subst (λ (l : List LogEntry). IsFront (take m.commit m.log) l) (sym y.same) f)
+      subst (λ (l : List LogEntry). IsPrefixOf l b) (sym x.same) (subst (λ (l : List LogEntry). IsPrefixOf (take m.commit m.log) l) (sym y.same) f)
 
   abbrev Been : Events → List LogEntry → Type 0
   Been run log = (log ≡ []) ⊎ HasBeen run log
 
-  fronts : (run : Events) (a b : List LogEntry) → Been run a → Been run b → length a ≤ length b → IsFront a b
-  fronts run a b (inl e) y le = subst (λ (l : List LogEntry). IsFront l b) (sym e) refl
-  fronts run a b (inr x) (inl e) le =
+  prefixes : (run : Events) (a b : List LogEntry) → Been run a → Been run b → length a ≤ length b → IsPrefixOf a b
+  prefixes run a b (inl e) y le = subst (λ (l : List LogEntry). IsPrefixOf l b) (sym e) refl
+  prefixes run a b (inr x) (inl e) le =
       let none : length a ≡ 0 = omega (arith, le, ap length e) in
       subst (λ (k : ℕ). take k b ≡ a) (sym none) (sym (empty a none))
     where
       empty : (l : List LogEntry) → length l ≡ 0 → l ≡ []
       empty [] e = refl
       empty (x ∷ l) e = absurd (omega (arith, e))
-  fronts run a b (inr x) (inr y) le = been_fronts run a b x y le
+  prefixes run a b (inr x) (inr y) le = been_prefixes run a b x y le
 
   longer_been : (run : Events) (i : NodeId) (best : List LogEntry) → Been run best → Been run (longer g.first best ((world g.first run).nodes i))
   longer_been run i best b = go ((world g.first run).nodes i) refl
@@ -152,7 +152,7 @@ module _ (g : Given) where
       go false q t f = f t
 
   pub grows : OneLogGrows g.first
-  grows run e = fronts (Then run e) (chosen g.first run) (chosen g.first (Then run e))
+  grows run e = prefixes (Then run e) (chosen g.first run) (chosen g.first (Then run e))
       (been_on run e (chosen g.first run) (chosen_been run)) (chosen_been (Then run e)) (all_longer (Then run e) g.first (chosen g.first run))
 
   pub holds : OneLogHolds g.first
@@ -160,7 +160,7 @@ module _ (g : Given) where
   holds (Then run e) i n m r =
       let all = Then run e in
       let len = length-take-le n.raft.commit n.raft.log (fits all all (here all) i n r) in
-      fronts all (take n.raft.commit n.raft.log) (chosen g.first all) (inr (record { moment = all; past = here all; who = i; node = n; runs = r; same = refl })) (chosen_been all)
+      prefixes all (take n.raft.commit n.raft.log) (chosen g.first all) (inr (record { moment = all; past = here all; who = i; node = n; runs = r; same = refl })) (chosen_been all)
       (omega (arith, len, each_longer all i n r g.first (chosen g.first run) m))
 
   pub are_safe : AreSafe g.first

@@ -288,7 +288,7 @@ module _ (first : List Member) where
   read_left book n [] all = tt
   read_left book n (r ∷ rs) (one, rest) = if_case (AllRead book) (is_due first n.raft r.pass) (not_due first n rs) (r ∷ not_due first n rs) (λ _. read_left book n rs rest) (λ _. (one, read_left book n rs rest))
 
-  -- reads of the fold of a front of the one log
+  -- reads of the fold of a first_part of the one log
   pub due_right : (chosen : List LogEntry) (book : List Note) (place : ℕ) (n : Node) (rs : List PendingRead) → place ≤ length chosen → n.database ≡ replica (take place chosen) → AllRead book rs → AllRight chosen book (at_place first place (due_answers first n rs))
   due_right chosen book place n [] le is all = tt
   due_right chosen book place n (r ∷ rs) le is (one, rest) = if_case (λ (l : List Answer). AllRight chosen book (at_place first place l)) (is_due first n.raft r.pass) (record { number = r.pass.id; say = Results (answers n.database r.items) } ∷ due_answers first n rs) (due_answers first n rs)
@@ -370,7 +370,7 @@ module _ (first : List Member) where
 
 -- one entry more is applied, which the one log has too
 module _ (first : List Member) (chosen log : List LogEntry) (applied : ℕ) (database : Database) (replica_is : database ≡ replica (take applied log))
-    (front : take (applied + 1) chosen ≡ take (applied + 1) log) (entry : LogEntry) (is : slice_get log applied ≡ Some entry) where
+    (first_part : take (applied + 1) chosen ≡ take (applied + 1) log) (entry : LogEntry) (is : slice_get log applied ≡ Some entry) where
   pub folds : replica (take (applied + 1) log) ≡ database_after database entry.content
   folds =
       ap replica (take_next log applied entry is)
@@ -411,13 +411,13 @@ module _ (first : List Member) (chosen log : List LogEntry) (applied : ℕ) (dat
       content = ap content_in (sym is ∙ there)
 
       enqueued : slice_get chosen (applied + 1 - 1) ≡ Some asks.entry
-      enqueued = ap (slice_get chosen) next ∙ get_same chosen log applied front ∙ there
+      enqueued = ap (slice_get chosen) next ∙ get_same chosen log applied first_part ∙ there
 
       made : outcome_of database entry.content ≡ outcome_of (replica (take (applied + 1 - 1) chosen)) asks.entry.content
       made =
           ap (λ (d : Database). outcome_of d entry.content) replica_is
           ∙ ap (λ (c : Content). outcome_of (replica (take applied log)) c) content
-          ∙ ap (λ (l : List LogEntry). outcome_of (replica l) asks.entry.content) (sym (take_less chosen log applied front))
+          ∙ ap (λ (l : List LogEntry). outcome_of (replica l) asks.entry.content) (sym (take_less chosen log applied first_part))
           ∙ ap (λ (k : ℕ). outcome_of (replica (take k chosen)) asks.entry.content) (sym next)
 
       by_sequence : (s : Option ℕ) → ContentFits asks.op w.position s asks.entry.content → IsRight chosen (Some asks.op) (said (outcome_of database entry.content) s) (applied + 1)

@@ -1,7 +1,7 @@
 -- What holds of each run of the world: docs/RAFT.md, "What a run promises".
 use Rattle.std.specs.Prelude.{ℕ, ◌≤◌, ◌<◌, ◌≡◌, true, Some, List, length, take, slice_get}
 use Rattle.rq_wire.specs.declared.config.Member.{Member}
-use Rattle.rq_history.specs.History.{NodeId, term_at, IsFront}
+use Rattle.rq_history.specs.History.{NodeId, term_at, IsPrefixOf}
 use Rattle.rq_raft.specs.declared.role.Role.TheVariants.{Leader}
 use Rattle.rq_raft.specs.Entries.{entry_view}
 use Rattle.rq_raft.specs.Node.{Append, Packet, one_of}
@@ -45,11 +45,11 @@ module _ (first : List Member) where
 
   -- the one log only grows ..
   abbrev pub OneLogGrows : Type 0
-  OneLogGrows = (run : Run) (event : Event) → IsFront (chosen first run) (chosen first (Then run event))
+  OneLogGrows = (run : Run) (event : Event) → IsPrefixOf (chosen first run) (chosen first (Then run event))
 
   -- .. and begins with what each member has committed
   abbrev pub OneLogHolds : Type 0
-  OneLogHolds = (run : Run) (i : NodeId) (n : Node) → one_of (members first) i ≡ true → Runs run i n → IsFront (take n.raft.commit n.raft.log) (chosen first run)
+  OneLogHolds = (run : Run) (i : NodeId) (n : Node) → one_of (members first) i ≡ true → Runs run i n → IsPrefixOf (take n.raft.commit n.raft.log) (chosen first run)
 
   pub record AreSafe : Type 0 where
     pub one_leader : OneLeaderATerm

@@ -22,7 +22,7 @@ pub fn each_run_is_safe()
     rq_history::laws::leaders_grow::<LogEntry>();
     rq_history::laws::commits_are_backed::<LogEntry>();
     rq_history::laws::committed_stays::<LogEntry>();
-    rq_history::laws::committed_fronts_agree::<LogEntry>();
+    rq_history::laws::committed_prefixes_agree::<LogEntry>();
     rq_history::laws::moments_are_ordered::<LogEntry>();
 }
 
@@ -37,7 +37,7 @@ pub fn each_moment_is_kept()
     rq_history::laws::leaders_grow::<LogEntry>();
     rq_history::laws::commits_are_backed::<LogEntry>();
     rq_history::laws::committed_stays::<LogEntry>();
-    rq_history::laws::committed_fronts_agree::<LogEntry>();
+    rq_history::laws::committed_prefixes_agree::<LogEntry>();
     rq_history::laws::moments_are_ordered::<LogEntry>();
 }
 
@@ -54,7 +54,7 @@ pub fn passes_cover()
     rq_history::laws::leaders_grow::<LogEntry>();
     rq_history::laws::commits_are_backed::<LogEntry>();
     rq_history::laws::committed_stays::<LogEntry>();
-    rq_history::laws::committed_fronts_agree::<LogEntry>();
+    rq_history::laws::committed_prefixes_agree::<LogEntry>();
     rq_history::laws::moments_are_ordered::<LogEntry>();
     rq_history::laws::time_goes_on::<LogEntry>();
     rq_history::laws::leaders_do_not_stand_again::<LogEntry>();
@@ -74,7 +74,7 @@ pub fn each_write_has_its_place()
     rq_history::laws::leaders_grow::<LogEntry>();
     rq_history::laws::commits_are_backed::<LogEntry>();
     rq_history::laws::committed_stays::<LogEntry>();
-    rq_history::laws::committed_fronts_agree::<LogEntry>();
+    rq_history::laws::committed_prefixes_agree::<LogEntry>();
     rq_history::laws::moments_are_ordered::<LogEntry>();
     rq_history::laws::time_goes_on::<LogEntry>();
     rq_history::laws::leaders_do_not_stand_again::<LogEntry>();
@@ -95,7 +95,7 @@ pub fn each_read_covers()
     rq_history::laws::leaders_grow::<LogEntry>();
     rq_history::laws::commits_are_backed::<LogEntry>();
     rq_history::laws::committed_stays::<LogEntry>();
-    rq_history::laws::committed_fronts_agree::<LogEntry>();
+    rq_history::laws::committed_prefixes_agree::<LogEntry>();
     rq_history::laws::moments_are_ordered::<LogEntry>();
     rq_history::laws::time_goes_on::<LogEntry>();
     rq_history::laws::leaders_do_not_stand_again::<LogEntry>();
@@ -115,7 +115,7 @@ pub fn each_ask_appends_once()
     rq_history::laws::leaders_grow::<LogEntry>();
     rq_history::laws::commits_are_backed::<LogEntry>();
     rq_history::laws::committed_stays::<LogEntry>();
-    rq_history::laws::committed_fronts_agree::<LogEntry>();
+    rq_history::laws::committed_prefixes_agree::<LogEntry>();
     rq_history::laws::moments_are_ordered::<LogEntry>();
     rq_history::laws::time_goes_on::<LogEntry>();
     rq_history::laws::leaders_do_not_stand_again::<LogEntry>();
@@ -135,7 +135,7 @@ pub fn each_ask_is_answered_once()
     rq_history::laws::leaders_grow::<LogEntry>();
     rq_history::laws::commits_are_backed::<LogEntry>();
     rq_history::laws::committed_stays::<LogEntry>();
-    rq_history::laws::committed_fronts_agree::<LogEntry>();
+    rq_history::laws::committed_prefixes_agree::<LogEntry>();
     rq_history::laws::moments_are_ordered::<LogEntry>();
     rq_history::laws::time_goes_on::<LogEntry>();
     rq_history::laws::leaders_do_not_stand_again::<LogEntry>();

@@ -4,7 +4,7 @@
 #![tactic(auto)]
 
 ghost use Rattle.std.specs.Prelude.{IfOk};
-ghost use Rattle.rq_cluster.specs.Play.{IsStatus};
+ghost use Rattle.rq_cluster.specs.Outcome.{IsStatus};
 
 use command_line::words_of;
 use random_words::RandomWords;

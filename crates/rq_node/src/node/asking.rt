@@ -8,10 +8,10 @@ ghost use Rattle.rq_request.specs.declared.say.Say.TheVariants.{Results};
 ghost use Rattle.rq_wal.specs.Calls.{PassesMost};
 ghost use Rattle.rq_wal.specs.Later.{Later};
 ghost use Rattle.rq_node.specs.declared.turn_error.TurnError.TheVariants.{Disk as DiskFailed, NoMemory as OutOfMemory};
-ghost use Rattle.rq_node.specs.Node.{kept_of, says};
+ghost use Rattle.rq_node.specs.Node.{persistent_of, says};
 ghost use Rattle.rq_node.specs.Rules.{execute, execute_sized, taken_up};
 ghost use Rattle.rq_node.specs.Sound.{IsReadable, most_bytes};
-ghost use Rattle.rq_node.specs.Standing.{IsOpen, IsBroken, Moments};
+ghost use Rattle.rq_node.specs.Recovery.{IsOpen, IsBroken, Moments};
 
 use super::{Node, State, splice_of, store};
 use crate::log_entry::{Content, LogEntry};
@@ -69,10 +69,10 @@ impl Node {
         ensures said { IfOk result (λ said. MatchOption said (execute self.old.state number items ≡ taken_up self.old.state number items) (λ say. execute self.old.state number items ≡ says self.old.state number say)) }
         ensures ok { OnOk result (self.new.state ≡ (execute self.old.state number items).node) }
         ensures open { OnOk result (IsOpen D.told D.means disks.new self.new) }
-        ensures calls { OnOk result (UsedCalls (4 * length (execute self.old.state number items).durable) (arm_of disks.old) (arm_of disks.new)) }
-        ensures failed { IsErrOf result DiskFailed → IsBroken D.told D.means disks.old disks.new self.old.state.id (kept_of self.old.state) (execute self.old.state number items).durable }
-        ensures moments { Moments D.told D.means disks.old disks.new self.old.state.id (kept_of self.old.state) (execute self.old.state number items).durable }
-        ensures most { PassesMost (4 * length (execute self.old.state number items).durable) (arm_of disks.old) (arm_of disks.new) }
+        ensures calls { OnOk result (UsedCalls (4 * length (execute self.old.state number items).records) (arm_of disks.old) (arm_of disks.new)) }
+        ensures failed { IsErrOf result DiskFailed → IsBroken D.told D.means disks.old disks.new self.old.state.id (persistent_of self.old.state) (execute self.old.state number items).records }
+        ensures moments { Moments D.told D.means disks.old disks.new self.old.state.id (persistent_of self.old.state) (execute self.old.state number items).records }
+        ensures most { PassesMost (4 * length (execute self.old.state number items).records) (arm_of disks.old) (arm_of disks.new) }
         ensures err { OnErr result (self.new.state ≡ self.old.state) }
         ensures no_memory { IsErrOf result OutOfMemory → IsOpen D.told D.means disks.new self.new }
         ensures no_memory_arm { IsErrOf result OutOfMemory → arm_of disks.new ≡ arm_of disks.old }
@@ -108,8 +108,8 @@ impl Node {
         ensures ok { OnOk result (self.new.state ≡ (taken_up self.old.state number items).node) }
         ensures open { OnOk result (IsOpen D.told D.means disks.new self.new) }
         ensures calls { OnOk result (UsedCalls 4 (arm_of disks.old) (arm_of disks.new)) }
-        ensures failed { IsErrOf result DiskFailed → IsBroken D.told D.means disks.old disks.new self.old.state.id (kept_of self.old.state) (taken_up self.old.state number items).durable }
-        ensures moments { Moments D.told D.means disks.old disks.new self.old.state.id (kept_of self.old.state) (taken_up self.old.state number items).durable }
+        ensures failed { IsErrOf result DiskFailed → IsBroken D.told D.means disks.old disks.new self.old.state.id (persistent_of self.old.state) (taken_up self.old.state number items).records }
+        ensures moments { Moments D.told D.means disks.old disks.new self.old.state.id (persistent_of self.old.state) (taken_up self.old.state number items).records }
         ensures most { PassesMost 4 (arm_of disks.old) (arm_of disks.new) }
         ensures err { OnErr result (self.new.state ≡ self.old.state) }
         ensures no_memory { IsErrOf result OutOfMemory → IsOpen D.told D.means disks.new self.new }

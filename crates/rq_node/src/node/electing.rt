@@ -6,9 +6,9 @@ ghost use Rattle.rq_wire.specs.declared.frame.Frame.TheVariants.{Vote};
 ghost use Rattle.rq_wal.specs.Calls.{PassesMost};
 ghost use Rattle.rq_wal.specs.Later.{Later};
 ghost use Rattle.rq_node.specs.declared.turn_error.TurnError.TheVariants.{Disk as DiskFailed, NoMemory as OutOfMemory};
-ghost use Rattle.rq_node.specs.Node.{kept_of};
+ghost use Rattle.rq_node.specs.Node.{persistent_of};
 ghost use Rattle.rq_node.specs.Rules.{elect, led};
-ghost use Rattle.rq_node.specs.Standing.{IsOpen, IsBroken, Moments};
+ghost use Rattle.rq_node.specs.Recovery.{IsOpen, IsBroken, Moments};
 
 use super::{Node, splice_of, store};
 use crate::log_entry::{Content, LogEntry};
@@ -31,13 +31,13 @@ impl Node {
     ) -> Result<u64, TurnError>
         requires open { IsOpen D.told D.means disks.old self.old }
         ensures ok { OnOk result (self.new.state ≡ (elect self.old.state).node) }
-        ensures count { IfOk result (λ count. count ≡ length (elect self.old.state).durable) }
+        ensures count { IfOk result (λ count. count ≡ length (elect self.old.state).records) }
         ensures open { OnOk result (IsOpen D.told D.means disks.new self.new) }
         ensures calls { IfOk result (λ count. UsedCalls (4 * count) (arm_of disks.old) (arm_of disks.new)) }
         ensures answers { (elect self.old.state).answers ≡ [] }
-        ensures failed { IsErrOf result DiskFailed → IsBroken D.told D.means disks.old disks.new self.old.state.id (kept_of self.old.state) (elect self.old.state).durable }
-        ensures moments { Moments D.told D.means disks.old disks.new self.old.state.id (kept_of self.old.state) (elect self.old.state).durable }
-        ensures most { PassesMost (4 * length (elect self.old.state).durable) (arm_of disks.old) (arm_of disks.new) }
+        ensures failed { IsErrOf result DiskFailed → IsBroken D.told D.means disks.old disks.new self.old.state.id (persistent_of self.old.state) (elect self.old.state).records }
+        ensures moments { Moments D.told D.means disks.old disks.new self.old.state.id (persistent_of self.old.state) (elect self.old.state).records }
+        ensures most { PassesMost (4 * length (elect self.old.state).records) (arm_of disks.old) (arm_of disks.new) }
         ensures err { OnErr result (self.new.state ≡ self.old.state) }
         ensures no_memory { IsErrOf result OutOfMemory → IsOpen D.told D.means disks.new self.new }
         ensures no_memory_arm { IsErrOf result OutOfMemory → arm_of disks.new ≡ arm_of disks.old }
@@ -58,8 +58,8 @@ impl Node {
         ensures ok { OnOk result (self.new.state ≡ (led self.old.state).node) }
         ensures open { OnOk result (IsOpen D.told D.means disks.new self.new) }
         ensures calls { OnOk result (UsedCalls 8 (arm_of disks.old) (arm_of disks.new)) }
-        ensures failed { IsErrOf result DiskFailed → IsBroken D.told D.means disks.old disks.new self.old.state.id (kept_of self.old.state) (led self.old.state).durable }
-        ensures moments { Moments D.told D.means disks.old disks.new self.old.state.id (kept_of self.old.state) (led self.old.state).durable }
+        ensures failed { IsErrOf result DiskFailed → IsBroken D.told D.means disks.old disks.new self.old.state.id (persistent_of self.old.state) (led self.old.state).records }
+        ensures moments { Moments D.told D.means disks.old disks.new self.old.state.id (persistent_of self.old.state) (led self.old.state).records }
         ensures most { PassesMost 8 (arm_of disks.old) (arm_of disks.new) }
         ensures err { OnErr result (self.new.state ≡ self.old.state) }
         ensures no_memory { IsErrOf result OutOfMemory → IsOpen D.told D.means disks.new self.new }

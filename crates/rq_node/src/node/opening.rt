@@ -11,7 +11,7 @@ ghost use Rattle.rq_wal.specs.Later.{Later, DeviceRose};
 ghost use Rattle.rq_wal.specs.declared.error.OpenError.TheVariants as opening;
 ghost use Rattle.rq_wal.specs.Reading.{pair_gives};
 ghost use Rattle.rq_node.specs.declared.error.NodeError.TheVariants.{Disk as DiskFailed, NoMemory as OutOfMemory, Command, Ended};
-ghost use Rattle.rq_node.specs.Node.{Kept, Durable, Boot, kept_of, kept_with, kept_after};
+ghost use Rattle.rq_node.specs.Node.{Persistent, StoredRecord, Boot, persistent_of, persistent_with, persistent_after};
 ghost use Rattle.rq_node.specs.declared.log_entry.LogEntry.{LogEntry as TheLogEntry};
 ghost use Rattle.rq_node.specs.declared.log_entry.Content.{Content as TheContent};
 ghost use Rattle.rq_node.specs.declared.log_entry.Content.TheVariants.{Execute};
@@ -22,8 +22,8 @@ ghost use Rattle.rq_engine.specs.Command.{execute_bytes};
 ghost use Rattle.rq_node.specs.Files.{first_base, first_image, body_of, stored_entry, stored_of};
 ghost use Rattle.rq_node.specs.Opened.{refusal_of, most_boots, IsNoCommand, IsNoEntry, IsNoLog, IsRefusal, IsStart};
 ghost use Rattle.rq_node.specs.Rules.{started};
-ghost use Rattle.rq_node.specs.Sound.{AreReadable, IsKeptReadable};
-ghost use Rattle.rq_node.specs.Standing.{HasFile, IsOpen, IsSomeOf, Stands, CanBeRead, FailedOpening};
+ghost use Rattle.rq_node.specs.Sound.{AreReadable, IsPersistentReadable};
+ghost use Rattle.rq_node.specs.Recovery.{HasFile, IsOpen, IsSomeOf, Stands, CanBeRead, FailedOpening};
 
 use super::{Node, State, store};
 use crate::error::NodeError;
@@ -51,12 +51,12 @@ impl Node {
     /// Refused where a disk fails, where the files leave the format or hold no node's log, where the node was started 2^62
     /// times, and for want of memory.
     pub fn open<D: Disk>(alloc: Global, disks: &mut DiskPair<D>, id: Id) -> Result<Node, NodeError>
-        ensures node { IsTrue D.told → (kept : Kept) (items : List Durable) → CanBeRead kept items → Stands D.told D.means disks.old id kept items → IfOk result (λ node. (k : ℕ) × (node.state ≡ (started id (kept_after kept (take k items))).node)) }
+        ensures node { IsTrue D.told → (kept : Persistent) (items : List StoredRecord) → CanBeRead kept items → Stands D.told D.means disks.old id kept items → IfOk result (λ node. (k : ℕ) × (node.state ≡ (started id (persistent_after kept (take k items))).node)) }
         ensures gives { IsTrue D.told → IfOk result (λ node. IsStart id (pair_gives (first_base id) (D.means (disk_at disks.old One)).content (D.means (disk_at disks.old Two)).content) node.state) }
         ensures refusals { IsTrue D.told → IfErr result (λ e. (e ≡ DiskFailed) ⊎ (e ≡ OutOfMemory) ⊎ IsRefusal (pair_gives (first_base id) (D.means (disk_at disks.old One)).content (D.means (disk_at disks.old Two)).content) e) }
         ensures open { IfOk result (λ node. IsOpen D.told D.means disks.new node) }
-        ensures failed { IsErrOf result DiskFailed → (kept : Kept) (items : List Durable) → CanBeRead kept items → Stands D.told D.means disks.old id kept items → FailedOpening D.told D.means disks.new id kept items }
-        ensures refused { IsTrue D.told → (kept : Kept) (items : List Durable) → CanBeRead kept items → Stands D.told D.means disks.old id kept items → IfErr result (λ e. (e ≡ DiskFailed) ⊎ (Stands D.told D.means disks.new id kept items × ((e ≡ OutOfMemory) ⊎ ((boot : ℕ) × (e ≡ Ended boot))))) }
+        ensures failed { IsErrOf result DiskFailed → (kept : Persistent) (items : List StoredRecord) → CanBeRead kept items → Stands D.told D.means disks.old id kept items → FailedOpening D.told D.means disks.new id kept items }
+        ensures refused { IsTrue D.told → (kept : Persistent) (items : List StoredRecord) → CanBeRead kept items → Stands D.told D.means disks.old id kept items → IfErr result (λ e. (e ≡ DiskFailed) ⊎ (Stands D.told D.means disks.new id kept items × ((e ≡ OutOfMemory) ⊎ ((boot : ℕ) × (e ≡ Ended boot))))) }
         ensures rose { IsErrOf result DiskFailed → PairRose D.means disks.old disks.new }
         ensures cause { IsErrOf result DiskFailed → DeviceRose D.means disks.old disks.new ⊎ (arm_of disks.new ≡ Struck) }
         ensures arm { PassesMost 14 (arm_of disks.old) (arm_of disks.new) }
@@ -81,9 +81,9 @@ fn open_files<D: Disk>(
     ensures current { IfOk result (λ opened. IsTrue D.told → IsCurrent D.means (first_base id) disks.new opened.0 opened.1) }
     ensures gives { IsTrue D.told → IfOk result (λ opened. pair_gives (first_base id) (D.means (disk_at disks.old One)).content (D.means (disk_at disks.old Two)).content ≡ Ok opened.1) }
     ensures refusals { IsTrue D.told → IfErr result (λ e. (e ≡ DiskFailed) ⊎ (e ≡ OutOfMemory) ⊎ IsRefusal (pair_gives (first_base id) (D.means (disk_at disks.old One)).content (D.means (disk_at disks.old Two)).content) e) }
-    ensures given { IsTrue D.told → (kept : Kept) (items : List Durable) → Stands D.told D.means disks.old id kept items → IfOk result (λ opened. IsSomeOf id kept items (Ok opened.1)) }
-    ensures stands { (kept : Kept) (items : List Durable) → Stands D.told D.means disks.old id kept items → Stands D.told D.means disks.new id kept items }
-    ensures refused { IsTrue D.told → (kept : Kept) (items : List Durable) → Stands D.told D.means disks.old id kept items → IfErr result (λ e. (e ≡ DiskFailed) ⊎ (e ≡ OutOfMemory)) }
+    ensures given { IsTrue D.told → (kept : Persistent) (items : List StoredRecord) → Stands D.told D.means disks.old id kept items → IfOk result (λ opened. IsSomeOf id kept items (Ok opened.1)) }
+    ensures stands { (kept : Persistent) (items : List StoredRecord) → Stands D.told D.means disks.old id kept items → Stands D.told D.means disks.new id kept items }
+    ensures refused { IsTrue D.told → (kept : Persistent) (items : List StoredRecord) → Stands D.told D.means disks.old id kept items → IfErr result (λ e. (e ≡ DiskFailed) ⊎ (e ≡ OutOfMemory)) }
     ensures rose { IsErrOf result DiskFailed → PairRose D.means disks.old disks.new }
     ensures cause { IsErrOf result DiskFailed → DeviceRose D.means disks.old disks.new ⊎ (arm_of disks.new ≡ Struck) }
     ensures arm { PassesMost 10 (arm_of disks.old) (arm_of disks.new) }
@@ -112,10 +112,10 @@ fn refusal(error: OpenError) -> NodeError
 
 /// What a node knows when it has booted once more over what was stored.
 fn started_state(alloc: Global, id: Id, stored: Stored) -> Result<State, NodeError>
-    ensures from { IfOk result (λ state. (kept : Kept) × (state ≡ (started id kept).node) × (stored.base ≡ first_base id → stored ≡ stored_of id kept) × AreReadable kept.log × (kept.boot < most_boots)) }
+    ensures from { IfOk result (λ state. (kept : Persistent) × (state ≡ (started id kept).node) × (stored.base ≡ first_base id → stored ≡ stored_of id kept) × AreReadable kept.log × (kept.boot < most_boots)) }
     ensures wrong { IfErr result (λ e. (e ≡ OutOfMemory) ⊎ IsRefusal (Ok stored) e) }
-    ensures ok { (kept : Kept) → AreReadable kept.log → stored ≡ stored_of id kept → IfOk result (λ state. state ≡ (started id kept).node) }
-    ensures refused { (kept : Kept) → AreReadable kept.log → stored ≡ stored_of id kept → IfErr result (λ e. (e ≡ OutOfMemory) ⊎ ((boot : ℕ) × (e ≡ Ended boot))) }
+    ensures ok { (kept : Persistent) → AreReadable kept.log → stored ≡ stored_of id kept → IfOk result (λ state. state ≡ (started id kept).node) }
+    ensures refused { (kept : Persistent) → AreReadable kept.log → stored ≡ stored_of id kept → IfErr result (λ e. (e ≡ OutOfMemory) ⊎ ((boot : ℕ) × (e ≡ Ended boot))) }
     ensures no_disk { IsErrOf result DiskFailed → ⊥ }
     ensures small { IfOk result (λ state. state.boot ≤ 2 ^ 62) }
 {
@@ -145,11 +145,11 @@ fn store_boot<D: Disk>(
     state: State,
 ) -> Result<Node, NodeError>
     requires small { state.boot ≤ 2 ^ 62 }
-    requires open { (id : List ℕ) × (kept : Kept) × HasFile D.told D.means disks.old id kept (Some wal) }
+    requires open { (id : List ℕ) × (kept : Persistent) × HasFile D.told D.means disks.old id kept (Some wal) }
     ensures state { IfOk result (λ node. node.state ≡ state) }
-    ensures open { (kept : Kept) → HasFile D.told D.means disks.old state.id kept (Some wal) → kept_with kept (Boot state.boot) ≡ kept_of state → IfOk result (λ node. IsOpen D.told D.means disks.new node) }
-    ensures failed { IsErrOf result DiskFailed → (kept : Kept) → HasFile D.told D.means disks.old state.id kept (Some wal) → Stands D.told D.means disks.new state.id kept (Boot state.boot ∷ []) }
-    ensures no_memory { IsErrOf result OutOfMemory → (kept : Kept) → HasFile D.told D.means disks.old state.id kept (Some wal) → IsTrue D.told → EachImageGives D.means (first_base state.id) disks.new (stored_of state.id kept) }
+    ensures open { (kept : Persistent) → HasFile D.told D.means disks.old state.id kept (Some wal) → persistent_with kept (Boot state.boot) ≡ persistent_of state → IfOk result (λ node. IsOpen D.told D.means disks.new node) }
+    ensures failed { IsErrOf result DiskFailed → (kept : Persistent) → HasFile D.told D.means disks.old state.id kept (Some wal) → Stands D.told D.means disks.new state.id kept (Boot state.boot ∷ []) }
+    ensures no_memory { IsErrOf result OutOfMemory → (kept : Persistent) → HasFile D.told D.means disks.old state.id kept (Some wal) → IsTrue D.told → EachImageGives D.means (first_base state.id) disks.new (stored_of state.id kept) }
     ensures refused { IfErr result (λ e. (e ≡ DiskFailed) ⊎ (e ≡ OutOfMemory)) }
     ensures rose { IsErrOf result DiskFailed → PairRose D.means disks.old disks.new }
     ensures cause { IsErrOf result DiskFailed → DeviceRose D.means disks.old disks.new ⊎ (arm_of disks.new ≡ Struck) }
@@ -186,11 +186,11 @@ fn log_of(alloc: Global, entries: &[Entry]) -> Result<Vec<LogEntry>, NodeError>
 
 /// The entry at this index, as the file has it.
 fn entry_of(alloc: Global, index: u64, entry: &Entry) -> Result<LogEntry, NodeError>
-    ensures readable { IfOk result (λ found. IsKeptReadable found.content) }
+    ensures readable { IfOk result (λ found. IsPersistentReadable found.content) }
     ensures spelled { IfOk result (λ found. entry.now ≡ stored_entry found) }
     ensures no_disk { IsErrOf result DiskFailed → ⊥ }
-    ensures ok { (kept : TheLogEntry) → IsKeptReadable kept.content → entry.now ≡ stored_entry kept → IfOk result (λ found. found ≡ kept) }
-    ensures refused { (kept : TheLogEntry) → IsKeptReadable kept.content → entry.now ≡ stored_entry kept → IfErr result (λ e. e ≡ OutOfMemory) }
+    ensures ok { (kept : TheLogEntry) → IsPersistentReadable kept.content → entry.now ≡ stored_entry kept → IfOk result (λ found. found ≡ kept) }
+    ensures refused { (kept : TheLogEntry) → IsPersistentReadable kept.content → entry.now ≡ stored_entry kept → IfErr result (λ e. e ≡ OutOfMemory) }
     ensures wrong { IfErr result (λ e. (e ≡ OutOfMemory) ⊎ IsNoEntry index entry.now.body e) }
 {
     let content = content_of(alloc, index, &entry.body)?;
@@ -202,11 +202,11 @@ fn entry_of(alloc: Global, index: u64, entry: &Entry) -> Result<LogEntry, NodeEr
 
 /// What the entry at this index holds.
 fn content_of(alloc: Global, index: u64, body: &Body) -> Result<Content, NodeError>
-    ensures readable { IfOk result (λ content. IsKeptReadable content) }
+    ensures readable { IfOk result (λ content. IsPersistentReadable content) }
     ensures spelled { IfOk result (λ content. body.now ≡ body_of content) }
     ensures no_disk { IsErrOf result DiskFailed → ⊥ }
-    ensures ok { (content : TheContent) → IsKeptReadable content → body.now ≡ body_of content → IfOk result (λ found. found ≡ content) }
-    ensures refused { (content : TheContent) → IsKeptReadable content → body.now ≡ body_of content → IfErr result (λ e. e ≡ OutOfMemory) }
+    ensures ok { (content : TheContent) → IsPersistentReadable content → body.now ≡ body_of content → IfOk result (λ found. found ≡ content) }
+    ensures refused { (content : TheContent) → IsPersistentReadable content → body.now ≡ body_of content → IfErr result (λ e. e ≡ OutOfMemory) }
     ensures wrong { IfErr result (λ e. (e ≡ OutOfMemory) ⊎ IsNoEntry index body.now e) }
 {
     match body {
@@ -218,11 +218,11 @@ fn content_of(alloc: Global, index: u64, body: &Body) -> Result<Content, NodeErr
 
 /// The list that a command of the entry at this index runs.
 fn list_of(alloc: Global, index: u64, command: &[u8]) -> Result<Seq<Item>, NodeError>
-    ensures readable { IfOk result (λ items. IsKeptReadable (Execute items)) }
+    ensures readable { IfOk result (λ items. IsPersistentReadable (Execute items)) }
     ensures spelled { IfOk result (λ items. command.now ≡ execute_bytes items) }
     ensures no_disk { IsErrOf result DiskFailed → ⊥ }
-    ensures ok { (items : List TheItem) → IsKeptReadable (Execute items) → command.now ≡ execute_bytes items → IfOk result (λ found. found ≡ items) }
-    ensures refused { (items : List TheItem) → IsKeptReadable (Execute items) → command.now ≡ execute_bytes items → IfErr result (λ e. e ≡ OutOfMemory) }
+    ensures ok { (items : List TheItem) → IsPersistentReadable (Execute items) → command.now ≡ execute_bytes items → IfOk result (λ found. found ≡ items) }
+    ensures refused { (items : List TheItem) → IsPersistentReadable (Execute items) → command.now ≡ execute_bytes items → IfErr result (λ e. e ≡ OutOfMemory) }
     ensures wrong { IfErr result (λ e. (e ≡ OutOfMemory) ⊎ ((error : TheError) × (e ≡ Command index error) × IsNoCommand command.now error)) }
 {
     if command.len() > MOST_BYTES {

@@ -188,7 +188,7 @@ fn extend_reserved(bytes: &mut Vec<u8>, piece: &[u8])
 impl Journal {
     ghost use Rattle.std.specs.Prelude.{min, ◌-◌};
 
-    /// Moves the bytes from `at` on to the front of `into`.
+    /// Moves the bytes from `at` on to the start of `into`.
     pub fn read(&self, at: u64, into: &mut [u8]) -> usize
         ensures whole { result ≡ min (length into.old) (length self.now.content.items - at) }
         ensures bytes { into.new ≡ take result (drop at self.now.content.items) ++ drop result into.old }

@@ -2,7 +2,7 @@ use Rattle.std.proofs.Common.{[], sym, refl, flat_map}
 use Rattle.std.proofs.lemmas.List.{append-nil}
 use Rattle.rq_script.specs.ScriptText.{pending_text}
 use Rattle.rq_cluster.specs.LastLines.{LastLine}
-use Rattle.rq_cluster.specs.Shown.{pending_in}
+use Rattle.rq_cluster.specs.Refines.{pending_in}
 use Rattle.rq_cluster.proofs.ending.give_ending.Goals as goal
 
 pub returns-clause-wrote : goal.returns-clause-wrote

@@ -3,8 +3,8 @@ use Rattle.rq_script.specs.Cluster.{Cluster, Steps, IsOutside}
 use Rattle.rq_script.specs.Lines.{lines_of}
 use Rattle.rq_cluster.specs.declared.feeding.Stop.TheVariants.{Outside as StopOutside}
 use Rattle.rq_cluster.specs.Feed.{AtEnd, PartOf, StopsKept}
-use Rattle.rq_cluster.specs.Shown.{Shows}
-use Rattle.rq_cluster.specs.Standing.{Holds}
+use Rattle.rq_cluster.specs.Refines.{Shows}
+use Rattle.rq_cluster.specs.Recovery.{Holds}
 use Rattle.rq_cluster.proofs.Pieces.{unwritten, of_other}
 use Rattle.rq_cluster.proofs.Finishing.{end_none, end_some, out_some, part_some}
 use Rattle.rq_cluster.proofs.ending.last_held.Goals as goal

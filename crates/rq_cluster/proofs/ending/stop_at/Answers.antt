@@ -1,6 +1,6 @@
 use Rattle.std.proofs.Common.{[], List, ℕ, sym, subst, refl, ◌∙◌}
 use Rattle.std.proofs.lemmas.List.{append-nil}
-use Rattle.rq_cluster.specs.Play.{Took}
+use Rattle.rq_cluster.specs.Outcome.{Took}
 use Rattle.rq_cluster.specs.LastLines.{stopped_line, LastLine}
 use Rattle.rq_cluster.proofs.ending.stop_at.Goals as goal
 

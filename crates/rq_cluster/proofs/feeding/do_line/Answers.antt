@@ -6,11 +6,11 @@ use Rattle.rq_cluster.proofs.feeding.do_line.Goals as goal
 
 pub returns-then-line-gt-MAX_LINE-clause-outside : goal.returns-then-line-gt-MAX_LINE-clause-outside
 returns-then-line-gt-MAX_LINE-clause-outside g c is start w shows =
-    (inl (omega (arith, c.if-line-gt-MAX_LINE.true)), c.shown_clusters_stand.ensures start c.args.disks.now.items c.args.world.now w shows)
+    (inl (omega (arith, c.if-line-gt-MAX_LINE.true)), c.refined_clusters_stand.ensures start c.args.disks.now.items c.args.world.now w shows)
 
 pub returns-then-line-gt-MAX_LINE-clause-part : goal.returns-then-line-gt-MAX_LINE-clause-part
 returns-then-line-gt-MAX_LINE-clause-part g c start w shows =
-    ([], (λ t. sym (append-nil (g.K.Sink.taken c.args.sink.now))), PartOf.none (c.shown_clusters_stand.ensures start c.args.disks.now.items c.args.world.now w shows))
+    ([], (λ t. sym (append-nil (g.K.Sink.taken c.args.sink.now))), PartOf.none (c.refined_clusters_stand.ensures start c.args.disks.now.items c.args.world.now w shows))
 
 pub returns-in-Err-Outside-clause-outside : goal.returns-in-Err-Outside-clause-outside
 returns-in-Err-Outside-clause-outside g c is start w shows = let o = c.in-Err-Outside.ensures.outside (ap Err c.in-Err-Outside.field-0-is) start w shows in (inr o.0, o.1)
@@ -31,7 +31,7 @@ returns-in-Err-Failed-clause-part g c start w shows =
     let o = c.in-Ok.ensures.ok start w shows in
     let fits : length c.args.line.now ≤ 2097152 = omega (arith, c.if-line-gt-MAX_LINE.false) in
     let said = c.deref.ensures.value ∙ o.3 ∙ ap (λ (l : List ℕ). l ++ o.1) c.new-text.ensures.items in
-    (e.0, e.1, PartOf.writing e.0 o.1 o.0 fits o.2 (subst (λ (l : List ℕ). IsPrefix e.0 l) said e.2) (c.shown_clusters_stand.ensures start c.step.new.disks.items c.step.new.self o.0 o.4))
+    (e.0, e.1, PartOf.writing e.0 o.1 o.0 fits o.2 (subst (λ (l : List ℕ). IsPrefix e.0 l) said e.2) (c.refined_clusters_stand.ensures start c.step.new.disks.items c.step.new.self o.0 o.4))
 
 pub returns-clause-part : goal.returns-clause-part
 returns-clause-part g c start w shows =
@@ -39,7 +39,7 @@ returns-clause-part g c start w shows =
     let o = c.in-Ok.ensures.ok start w shows in
     let fits : length c.args.line.now ≤ 2097152 = omega (arith, c.if-line-gt-MAX_LINE.false) in
     let said = c.deref.ensures.value ∙ o.3 ∙ ap (λ (l : List ℕ). l ++ o.1) c.new-text.ensures.items in
-    (e.0, e.1, PartOf.writing e.0 o.1 o.0 fits o.2 (subst (λ (l : List ℕ). IsPrefix e.0 l) said e.2) (c.shown_clusters_stand.ensures start c.step.new.disks.items c.step.new.self o.0 o.4))
+    (e.0, e.1, PartOf.writing e.0 o.1 o.0 fits o.2 (subst (λ (l : List ℕ). IsPrefix e.0 l) said e.2) (c.refined_clusters_stand.ensures start c.step.new.disks.items c.step.new.self o.0 o.4))
 
 pub returns-in-Ok-give-clause-ok : goal.returns-in-Ok-give-clause-ok
 returns-in-Ok-give-clause-ok g c start w shows =

@@ -1,8 +1,8 @@
 use Rattle.std.proofs.Common.{◌+◌, ◌++◌, ◌∷◌, ◌∙◌, ap, arith, subst, sym, refl, inl, inr, ℕ, List, []}
 use Rattle.rq_script.specs.Lines.{drop_cr, lines_of}
-use Rattle.rq_cluster.specs.Play.{BrokenOff}
+use Rattle.rq_cluster.specs.Outcome.{BrokenOff}
 use Rattle.rq_cluster.specs.Feed.{After, StopsKept}
-use Rattle.rq_cluster.specs.Standing.{Holds}
+use Rattle.rq_cluster.specs.Recovery.{Holds}
 use Rattle.rq_cluster.proofs.Cutting.{line_out, broken_before}
 use Rattle.rq_cluster.proofs.Pieces.{end_done, end_outside, end_part, unwritten}
 use Rattle.rq_cluster.proofs.feeding.end_line.Goals as goal
@@ -40,7 +40,7 @@ returns-then-progress-eq-MAX_SCRIPT-clause-outside g c is rest start read text s
     unwritten g.K.Sink.told taken taken (λ (t : List ℕ). StopsKept (Holds g.D.Disk.told g.D.Disk.means start c.args.disks.now.items) sh.number (lines_of (read ++ 10 ∷ rest)) t) text (λ t. refl) (
       s.0,
       line_out read text s.0 sh.number sh.held.items sh.read s.1 rest (inl (inr (omega (arith, c.if-progress-eq-MAX_SCRIPT.true)))),
-      c.shown_clusters_stand.ensures start c.args.disks.now.items sh.world s.0 s.2,
+      c.refined_clusters_stand.ensures start c.args.disks.now.items sh.world s.0 s.2,
     )
 
 pub returns-then-progress-eq-MAX_SCRIPT-clause-part : goal.returns-then-progress-eq-MAX_SCRIPT-clause-part
@@ -49,4 +49,4 @@ returns-then-progress-eq-MAX_SCRIPT-clause-part g c rest start read text s =
     let taken = g.K.Sink.taken c.args.sink.now in
     let K = Holds g.D.Disk.told g.D.Disk.means start c.args.disks.now.items in
     unwritten g.K.Sink.told taken taken (BrokenOff (lines_of (read ++ 10 ∷ rest)) K) text (λ t. refl)
-    (broken_before read text s.0 sh.number sh.held.items sh.read s.1 K (10 ∷ rest) (c.shown_clusters_stand.ensures start c.args.disks.now.items sh.world s.0 s.2))
+    (broken_before read text s.0 sh.number sh.held.items sh.read s.1 K (10 ∷ rest) (c.refined_clusters_stand.ensures start c.args.disks.now.items sh.world s.0 s.2))

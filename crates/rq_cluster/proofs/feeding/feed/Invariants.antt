@@ -1,6 +1,6 @@
 use Rattle.std.proofs.Common.{◌≡◌, ◌≤◌, ◌+◌, ◌-◌, length, take}
 use Rattle.rq_cluster.specs.Feed.{GoesOn}
-use Rattle.rq_cluster.specs.Shown.{IsReady}
+use Rattle.rq_cluster.specs.Refines.{IsReady}
 use Rattle.rq_cluster.proofs.feeding.feed.Given as goal
 
 abbrev pub invariant-loop-fed : goal.invariant-loop-fed

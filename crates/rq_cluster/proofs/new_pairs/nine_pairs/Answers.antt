@@ -1,7 +1,7 @@
 use Rattle.std.proofs.Common.{rules, ◌≡◌, List, [], ◌∷◌, ◌++◌, length, sym, subst}
 use Rattle.std.specs.Prelude.{All}
 use Rattle.rq_cluster.specs.EmptyPairs.{IsMade, AreMade}
-use Rattle.rq_cluster.specs.Standing.{IsNew}
+use Rattle.rq_cluster.specs.Recovery.{IsNew}
 use Rattle.rq_cluster.proofs.Emptiness.{one_more_new, one_more_made}
 use Rattle.rq_cluster.proofs.new_pairs.nine_pairs.Goals as goal
 

@@ -1,7 +1,7 @@
 use Rattle.std.proofs.Common.{◌≡◌, length}
 use Rattle.std.specs.Prelude.{All}
 use Rattle.rq_cluster.specs.EmptyPairs.{AreMade}
-use Rattle.rq_cluster.specs.Standing.{IsNew}
+use Rattle.rq_cluster.specs.Recovery.{IsNew}
 use Rattle.rq_cluster.proofs.new_pairs.nine_pairs.Given as goal
 
 abbrev pub invariant-loop-place : goal.invariant-loop-place

@@ -1,6 +1,6 @@
 use Rattle.std.proofs.Common.{◌≡◌, ◌≤◌, ◌-◌, ◌++◌, List, ℕ, IsTrue}
 use Rattle.rq_cluster.specs.Feed.{GoesOn}
-use Rattle.rq_cluster.specs.Shown.{IsReady}
+use Rattle.rq_cluster.specs.Refines.{IsReady}
 use Rattle.rq_cluster.proofs.reading_lines.read_all.Given as goal
 
 abbrev pub invariant-reading : goal.invariant-reading

@@ -3,9 +3,9 @@ use Rattle.rq_outside.specs.Counts.{Rose}
 use Rattle.rq_script.specs.Cluster.{first_cluster}
 use Rattle.rq_script.specs.Lines.{lines_of}
 use Rattle.rq_cluster.specs.LastLines.{stopped_line, read_fault}
-use Rattle.rq_cluster.specs.Play.{Ends, BrokenOff, Wrote}
+use Rattle.rq_cluster.specs.Outcome.{Ends, BrokenOff, Wrote}
 use Rattle.rq_cluster.specs.Feed.{StopsKept, IsAfter}
-use Rattle.rq_cluster.specs.Standing.{Holds}
+use Rattle.rq_cluster.specs.Recovery.{Holds}
 use Rattle.rq_cluster.proofs.Finishing.{finished, map_took, cut_sink, cut_memory, whole_runs, wider, after_took}
 use Rattle.rq_cluster.proofs.Showing.{first_shows, first_ready}
 use Rattle.rq_cluster.proofs.running.run_script.Goals as goal
@@ -70,7 +70,7 @@ returns-in-Err-Source-clause-wrote g c tells shown =
     finished bytes left F K told (taken c.args.sink.now) (taken c.read_all.new.sink) (taken c.last_line.new.sink) 4 read_fault [] c.last_line.result
     (map_took told (taken c.args.sink.now) (taken c.read_all.new.sink) (λ out. IsAfter g.D.Disk.told g.D.Disk.means start pairs f.0 out sh) (λ out. Ends bytes left F K 4 out read_fault)
     (λ out s. Ends.fault f.0 out s.0 (c.in-Err-Source.ensures.source_cause (ap Err c.in-Err-Source.field-0-is)) f.1 (whole_runs f.0 out s.0 sh.number sh.held.items sh.read s.1)
-    (c.shown_clusters_stand.ensures start pairs sh.world s.0 s.2))
+    (c.refined_clusters_stand.ensures start pairs sh.world s.0 s.2))
     (f.2 start [] [] s0))
     c.last_line.ensures.wrote
 

@@ -6,9 +6,9 @@ pub returns : goal.returns
 returns c =
     let word = c.args.word.now in
     let a = decimal c.args.place in
-    let front = codes "stopped: word " in
+    let prefix = codes "stopped: word " in
     let mid = codes ": " in
     let last = codes "\n" in
     let first = c.in_ok-line.ensures.items ∙ c.as_bytes.ensures.value ∙ c.in_ok-front.ensures.ok in
     c.in_ok-extend_from_slice-2.ensures.items ∙ ap (λ (l : List ℕ). l ++ last) (c.in_ok-extend_from_slice.ensures.items ∙ ap (λ (l : List ℕ). l ++ word) first)
-    ∙ append_assoc (front ++ (a ++ mid)) word last ∙ append_assoc front (a ++ mid) (word ++ last) ∙ ap (λ (l : List ℕ). front ++ l) (append_assoc a mid (word ++ last))
+    ∙ append_assoc (prefix ++ (a ++ mid)) word last ∙ append_assoc prefix (a ++ mid) (word ++ last) ∙ ap (λ (l : List ℕ). prefix ++ l) (append_assoc a mid (word ++ last))

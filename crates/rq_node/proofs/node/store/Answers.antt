@@ -6,7 +6,7 @@ use Rattle.rq_wal.specs.Rules.{AreAllowed}
 use Rattle.rq_wal.specs.Spelling.{piece_of}
 use Rattle.rq_wal.specs.declared.file.WalFile.{WalFile}
 use Rattle.rq_node.specs.Files.{first_base, frame_of, stored_of}
-use Rattle.rq_node.specs.Standing.{HasFile}
+use Rattle.rq_node.specs.Recovery.{HasFile}
 use Rattle.rq_node.proofs.FileSteps.{file_at_rest, file_more, some_stand, device_later, pair_later, some_since, none_since}
 use Rattle.rq_node.proofs.node.store.Goals as goal
 

@@ -1,4 +1,4 @@
-use Rattle.rq_script.proofs.Tellings.{told}
+use Rattle.rq_script.proofs.Writings.{told}
 use Rattle.rq_script.proofs.laws.answers_are_noted.Goals as goal
 
 pub returns : goal.returns

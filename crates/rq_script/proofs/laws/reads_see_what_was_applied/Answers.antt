@@ -1,4 +1,4 @@
-use Rattle.rq_script.proofs.Tellings.{seen}
+use Rattle.rq_script.proofs.Writings.{seen}
 use Rattle.rq_script.proofs.laws.reads_see_what_was_applied.Goals as goal
 
 pub returns : goal.returns

@@ -1,5 +1,5 @@
 use Rattle.rq_outside.specs.Pair.{disk_at}
-use Rattle.rq_wal.proofs.AppendSteps.{first_torn, second_torn, front, at_rest}
+use Rattle.rq_wal.proofs.AppendSteps.{first_torn, second_torn, prefix, at_rest}
 use Rattle.rq_wal.proofs.Moments.{weaker, then}
 use Rattle.rq_wal.proofs.appending.append.Goals as goal
 
@@ -39,5 +39,5 @@ returns-clause-at_rest g c told =
 pub returns-clause-done : goal.returns-clause-done
 returns-clause-done g c told =
     let means = g.D.Disk.means in
-    front (means (disk_at c.args.disks.now c.args.file)) (means (disk_at c.write_synced.new.disks c.args.file)) c.args.place c.args.piece.now c.requires.piece (c.requires.at_rest told)
+    prefix (means (disk_at c.args.disks.now c.args.file)) (means (disk_at c.write_synced.new.disks c.args.file)) c.args.place c.args.piece.now c.requires.piece (c.requires.at_rest told)
     (c.in_ok-write_synced.ensures.written told) (means (disk_at c.write_synced-2.new.disks c.args.file)) (c.in_ok-write_synced-2.ensures.written told) (c.in_ok-write_synced-2.ensures.durable told)

@@ -1,4 +1,4 @@
-use Rattle.rq_wal.proofs.Standing.{images_give}
+use Rattle.rq_wal.proofs.Recovery.{images_give}
 use Rattle.rq_wal.proofs.laws.current_logs_stand.Goals as goal
 
 pub returns : goal.returns

@@ -5,7 +5,7 @@ use Rattle.rq_wal.specs.Current.{SomeImageGives}
 use Rattle.rq_wal.proofs.ImagesNow.{each_given, since_now}
 use Rattle.rq_wal.proofs.Settled.{gives_in, current_in, images_in, moments_in, later_in, opened_of, new_of, none_found, rest_in, unchanged_in, refused_so}
 use Rattle.rq_wal.proofs.Progress.{rose_later}
-use Rattle.rq_wal.proofs.Standing.{always_kept}
+use Rattle.rq_wal.proofs.Recovery.{always_kept}
 use Rattle.rq_wal.proofs.opening.open.Goals as goal
 
 pub returns-in_err-found-clause-any_moment : goal.returns-in_err-found-clause-any_moment

@@ -3,7 +3,7 @@ use Rattle.rq_outside.specs.declared.pair.FileNo.TheVariants.{One}
 use Rattle.rq_outside.specs.Pair.{disk_at}
 use Rattle.rq_wal.specs.Replace.{generation_of}
 use Rattle.rq_wal.specs.Spelling.{body_bytes}
-use Rattle.rq_wal.proofs.Standing.{begun_moments, new_file, body_size}
+use Rattle.rq_wal.proofs.Recovery.{begun_moments, new_file, body_size}
 use Rattle.rq_wal.proofs.AtRest.{ends_at_rest}
 use Rattle.rq_wal.proofs.Opened.{new_generation}
 use Rattle.rq_wal.proofs.opening.write_body.Goals as goal

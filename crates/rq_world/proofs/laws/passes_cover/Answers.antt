@@ -15,7 +15,7 @@ returns c = λ first. (
     leaders_grow = c.leaders_grow.ensures (entry_view log_entries);
     commits_are_backed = c.commits_are_backed.ensures (entry_view log_entries);
     committed_stays = c.committed_stays.ensures (entry_view log_entries);
-    fronts_agree = c.committed_fronts_agree.ensures (entry_view log_entries);
+    prefixes_agree = c.committed_prefixes_agree.ensures (entry_view log_entries);
     moments = c.moments_are_ordered.ensures;
   }) (record {
     lead_on = c.leaders_lead_on.ensures log_entries first;
@@ -33,7 +33,7 @@ returns c = λ first. (
     leaders_grow = c.leaders_grow.ensures (entry_view log_entries);
     commits_are_backed = c.commits_are_backed.ensures (entry_view log_entries);
     committed_stays = c.committed_stays.ensures (entry_view log_entries);
-    fronts_agree = c.committed_fronts_agree.ensures (entry_view log_entries);
+    prefixes_agree = c.committed_prefixes_agree.ensures (entry_view log_entries);
     moments = c.moments_are_ordered.ensures;
   }) (record {
     lead_on = c.leaders_lead_on.ensures log_entries first;

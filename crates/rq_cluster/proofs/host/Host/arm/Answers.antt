@@ -1,6 +1,6 @@
 use Rattle.std.proofs.Common.{Option, refl, subst}
 use Rattle.rq_node.specs.declared.node.Node.{Node as RunningNode}
-use Rattle.rq_cluster.specs.Shown.{NodeReady}
+use Rattle.rq_cluster.specs.Refines.{NodeReady}
 use Rattle.rq_cluster.proofs.Pairs.{SameDisks, open_same}
 use Rattle.rq_cluster.proofs.Starts.{arms_server}
 use Rattle.rq_cluster.proofs.Turns.{some_of}

@@ -7,7 +7,7 @@ use Rattle.rq_node.specs.Sound.{AreReadable}
 use Rattle.rq_script.specs.Cluster.{numbers}
 use Rattle.rq_script.specs.ScriptText.{answers_text}
 use Rattle.rq_cluster.specs.Acting.{event}
-use Rattle.rq_cluster.specs.Shown.{BreaksOff}
+use Rattle.rq_cluster.specs.Refines.{BreaksOff}
 use Rattle.rq_cluster.proofs.Downs.{fewer_on, fell_goes, fell_breaks, goes_of, turn_stands}
 use Rattle.rq_cluster.proofs.Pairs.{SameDisks, fewer_same, fewer_later}
 use Rattle.rq_cluster.proofs.Results.{on_ok_map, on_err_always}

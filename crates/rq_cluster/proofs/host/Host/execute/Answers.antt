@@ -11,7 +11,7 @@ use Rattle.rq_node.specs.Sound.{AreReadable}
 use Rattle.rq_script.specs.Cluster.{numbers}
 use Rattle.rq_script.specs.ScriptText.{answer_text, answers_text}
 use Rattle.rq_cluster.specs.Acting.{event}
-use Rattle.rq_cluster.specs.Shown.{BreaksOff}
+use Rattle.rq_cluster.specs.Refines.{BreaksOff}
 use Rattle.rq_cluster.proofs.Downs.{fewer_on, fell_goes, fell_breaks, goes_of, turn_stands}
 use Rattle.rq_cluster.proofs.Pairs.{SameDisks, NoFewer, fewer_same, fewer_later}
 use Rattle.rq_cluster.proofs.Results.{on_ok_map, on_err_always}
@@ -40,7 +40,7 @@ returns-in-Ok-Some-clause-ok g c =
     let later : NoFewer told means old new = fewer_on told means old mid new (fewer_same told means old mid same) (fewer_later told means mid new c.execute.ensures.later) in
     let said : rule c.in-Some.node.state ≡ says c.in-Some.node.state c.args.number c.in-Ok-Some.say =
     subst (λ (o : Option Say). MatchOption o (rule c.in-Some.node.state ≡ taken_up c.in-Some.node.state c.args.number c.args.items) (λ say. rule c.in-Some.node.state ≡ says c.in-Some.node.state c.args.number say)) c.in-Ok-Some.field-0-is c.in-Ok-Some.ensures.said in
-    let none : 0 ≡ length (rule c.in-Some.node.state).durable = ap (λ (t : Turn). length t.durable) (sym said) in
+    let none : 0 ≡ length (rule c.in-Some.node.state).records = ap (λ (t : Turn). length t.records) (sym said) in
     let calls : UsedCalls (4 * 0) (arm_of mid) (arm_of new) = subst (λ (k : ℕ). UsedCalls (4 * k) (arm_of mid) (arm_of new)) (sym none) c.in-Ok-Some.ensures.calls in
     goes_of told means c.write_answer.result (event rule (c.args.number ∷ [])) old new from c.go_on.new.self c.args.text.now.items c.write_answer.new.text.items
     (λ start s shows. on_ok_map c.write_answer.result (c.write_answer.new.text.items ≡ c.args.text.now.items ++ answer_text answer) _
@@ -64,7 +64,7 @@ returns-in-Ok-Some-clause-broken g c =
     let later : NoFewer told means old new = fewer_on told means old mid new (fewer_same told means old mid same) (fewer_later told means mid new c.execute.ensures.later) in
     let said : rule c.in-Some.node.state ≡ says c.in-Some.node.state c.args.number c.in-Ok-Some.say =
     subst (λ (o : Option Say). MatchOption o (rule c.in-Some.node.state ≡ taken_up c.in-Some.node.state c.args.number c.args.items) (λ say. rule c.in-Some.node.state ≡ says c.in-Some.node.state c.args.number say)) c.in-Ok-Some.field-0-is c.in-Ok-Some.ensures.said in
-    let none : 0 ≡ length (rule c.in-Some.node.state).durable = ap (λ (t : Turn). length t.durable) (sym said) in
+    let none : 0 ≡ length (rule c.in-Some.node.state).records = ap (λ (t : Turn). length t.records) (sym said) in
     let calls : UsedCalls (4 * 0) (arm_of mid) (arm_of new) = subst (λ (k : ℕ). UsedCalls (4 * k) (arm_of mid) (arm_of new)) (sym none) c.in-Ok-Some.ensures.calls in
     on_err_always c.write_answer.result (BreaksOff told means (event rule (c.args.number ∷ [])) old new from)
     (λ start s shows.
@@ -87,7 +87,7 @@ returns-in-Ok-None-clause-ok g c = λ start s shows.
     let later : NoFewer told means old new = fewer_on told means old mid new (fewer_same told means old mid same) (fewer_later told means mid new c.execute.ensures.later) in
     let said : rule c.in-Some.node.state ≡ taken_up c.in-Some.node.state c.args.number c.args.items =
     subst (λ (o : Option Say). MatchOption o (rule c.in-Some.node.state ≡ taken_up c.in-Some.node.state c.args.number c.args.items) (λ say. rule c.in-Some.node.state ≡ says c.in-Some.node.state c.args.number say)) c.in-Ok-None.field-0-is c.in-Ok-None.ensures.said in
-    let one : 1 ≡ length (rule c.in-Some.node.state).durable = ap (λ (t : Turn). length t.durable) (sym said) in
+    let one : 1 ≡ length (rule c.in-Some.node.state).records = ap (λ (t : Turn). length t.records) (sym said) in
     let calls : UsedCalls (4 * 1) (arm_of mid) (arm_of new) = subst (λ (k : ℕ). UsedCalls (4 * k) (arm_of mid) (arm_of new)) (sym one) c.in-Ok-None.ensures.calls in
     turn_goes told means start old from s shows mid new c.go_on-in-Ok-None.new.self c.in-Some.node c.execute.new.self rule (c.args.number ∷ []) 1 c.args.text.now.items c.args.text.now.items
     same (lets_of told means start old from s shows mid c.let_pass.ensures.passes) later

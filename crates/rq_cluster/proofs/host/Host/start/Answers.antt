@@ -1,12 +1,12 @@
 use Rattle.std.proofs.Common.{[], ◌++◌, ◌+◌, List, ℕ, ◌≡◌, Some, Err, take, ◌∙◌, sym, ap, subst, refl}
 use Rattle.std.proofs.lemmas.List.{append-nil}
-use Rattle.rq_node.specs.Node.{kept_after}
+use Rattle.rq_node.specs.Node.{persistent_after}
 use Rattle.rq_node.specs.Rules.{started}
-use Rattle.rq_node.specs.Standing.{Stands, FailedOpening}
+use Rattle.rq_node.specs.Recovery.{Stands, FailedOpening}
 use Rattle.rq_script.specs.ScriptText.{up_text, down_text}
 use Rattle.rq_cluster.specs.Acting.{start as start_act}
 use Rattle.rq_cluster.specs.declared.host.Host.{Host}
-use Rattle.rq_cluster.specs.Shown.{BreaksOff}
+use Rattle.rq_cluster.specs.Refines.{BreaksOff}
 use Rattle.rq_cluster.proofs.Downs.{down_goes, down_breaks, goes_of}
 use Rattle.rq_cluster.proofs.Pairs.{SameDisks, NoFewer, fewer_later}
 use Rattle.rq_cluster.proofs.Results.{on_ok_map, on_err_always}
@@ -28,7 +28,7 @@ returns-in_ok-write_up-in-Ok-clause-ok g c = λ start s shows.
     let later : NoFewer told means mid new = fewer_later told means mid new c.open.ensures.later in
     let d = is_down told means start old from s shows down mid new same lets later c.open.ensures.arm in
     let stands = subst (λ (i : List ℕ). Stands told means mid i d.kept d.rest) shows.id (stood told means start old from s shows down mid new same lets later c.open.ensures.arm) in
-    let state = subst (λ (i : List ℕ). (k : ℕ) × (c.in-Ok.node.state ≡ (started i (kept_after d.kept (take k d.rest))).node)) (sym shows.id) (c.in-Ok.ensures.node shows.tells d.kept d.rest d.readable stands) in
+    let state = subst (λ (i : List ℕ). (k : ℕ) × (c.in-Ok.node.state ≡ (started i (persistent_after d.kept (take k d.rest))).node)) (sym shows.id) (c.in-Ok.ensures.node shows.tells d.kept d.rest d.readable stands) in
     starts_running told means start old from s shows down mid new same lets later c.open.ensures.arm _ c.in-Ok.node c.args.text.now.items c.write_up.new.text.items refl refl refl refl refl
     state c.in-Ok.ensures.open c.in_ok-write_up-in-Ok.ensures
 
@@ -49,7 +49,7 @@ returns-in_err-write_up-in-Ok-clause-broken g c =
     let lets = lets_of told means start old from s shows mid c.let_pass.ensures.passes in
     let d = is_down told means start old from s shows down mid new same lets later c.open.ensures.arm in
     let stands = subst (λ (i : List ℕ). Stands told means mid i d.kept d.rest) shows.id (stood told means start old from s shows down mid new same lets later c.open.ensures.arm) in
-    let state = subst (λ (i : List ℕ). (k : ℕ) × (c.in-Ok.node.state ≡ (started i (kept_after d.kept (take k d.rest))).node)) (sym shows.id) (c.in-Ok.ensures.node shows.tells d.kept d.rest d.readable stands) in
+    let state = subst (λ (i : List ℕ). (k : ℕ) × (c.in-Ok.node.state ≡ (started i (persistent_after d.kept (take k d.rest))).node)) (sym shows.id) (c.in-Ok.ensures.node shows.tells d.kept d.rest d.readable stands) in
     let went = starts_running told means start old from s shows down mid new same lets later c.open.ensures.arm to c.in-Ok.node [] (up_text c.in-Ok.node.state) refl refl refl refl refl
     state c.in-Ok.ensures.open refl in
     breaks_after told means c.current_logs_stand.ensures start_act start new to s (went.0, went.1))

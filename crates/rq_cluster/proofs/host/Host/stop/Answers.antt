@@ -4,7 +4,7 @@ use Rattle.rq_node.specs.Sound.{AreReadable}
 use Rattle.rq_script.specs.Cluster.{numbers}
 use Rattle.rq_script.specs.ScriptText.{down_text}
 use Rattle.rq_cluster.specs.Acting.{Crashed, stop as stop_act}
-use Rattle.rq_cluster.specs.Shown.{BreaksOff}
+use Rattle.rq_cluster.specs.Refines.{BreaksOff}
 use Rattle.rq_cluster.proofs.Downs.{down_goes, down_breaks, goes_of}
 use Rattle.rq_cluster.proofs.Results.{on_ok_map, on_err_always}
 use Rattle.rq_cluster.proofs.Starts.{stops_down}

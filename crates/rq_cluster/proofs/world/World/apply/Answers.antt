@@ -1,6 +1,6 @@
 use Rattle.std.proofs.Common.{refl, subst}
-use Rattle.rq_cluster.specs.Shown.{ServerReady}
-use Rattle.rq_cluster.proofs.Quiet.{applies_goes, applies_ready}
+use Rattle.rq_cluster.specs.Refines.{ServerReady}
+use Rattle.rq_cluster.proofs.Unchanged.{applies_goes, applies_ready}
 use Rattle.rq_cluster.proofs.Servers.{same_id, apply_done, line_does}
 use Rattle.rq_script.specs.ScriptLine as lines
 use Rattle.rq_cluster.proofs.Showing.{host_stands}

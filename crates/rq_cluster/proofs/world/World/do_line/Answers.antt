@@ -2,7 +2,7 @@ use Rattle.std.proofs.Common.{ap, subst, sym, []}
 use Rattle.rq_script.specs.ReadLine.{line_read}
 use Rattle.rq_script.specs.ScriptLine as lines
 use Rattle.rq_script.specs.ScriptLine.{Line}
-use Rattle.rq_cluster.specs.Shown.{DoesLine, BreaksLine}
+use Rattle.rq_cluster.specs.Refines.{DoesLine, BreaksLine}
 use Rattle.rq_cluster.proofs.Servers.{skips, writes_nothing}
 use Rattle.rq_cluster.proofs.Worlds.{on_ok_map}
 use Rattle.rq_cluster.proofs.world.World.do_line.Goals as goal

@@ -3,7 +3,7 @@ use Rattle.rq_statement.specs.declared.item.Item.{Item}
 use Rattle.rq_json.specs.Body.{texts_of}
 use Rattle.rq_script.specs.Preparing.{AreRead}
 use Rattle.rq_script.specs.ScriptLine as lines
-use Rattle.rq_cluster.proofs.Quiet.{queries_goes}
+use Rattle.rq_cluster.proofs.Unchanged.{queries_goes}
 use Rattle.rq_cluster.proofs.Servers.{same_id, the_some, of_some, query_done, line_does}
 use Rattle.rq_cluster.proofs.Showing.{host_stands}
 use Rattle.rq_cluster.proofs.Worlds.{breaks_untouched}

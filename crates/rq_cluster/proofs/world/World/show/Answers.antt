@@ -1,5 +1,5 @@
 use Rattle.std.proofs.Common.{refl}
-use Rattle.rq_cluster.proofs.Quiet.{shown_goes}
+use Rattle.rq_cluster.proofs.Unchanged.{shown_goes}
 use Rattle.rq_cluster.proofs.Servers.{same_id, show_done, line_does}
 use Rattle.rq_script.specs.ScriptLine as lines
 use Rattle.rq_cluster.proofs.Showing.{host_stands}

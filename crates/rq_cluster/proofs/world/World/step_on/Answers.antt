@@ -1,7 +1,7 @@
 use Rattle.std.proofs.Common.{◌≡◌, Some}
 use Rattle.rq_script.specs.ReadLine.{line_read}
 use Rattle.rq_script.specs.ScriptLine.{line_of}
-use Rattle.rq_cluster.specs.Shown.{Does}
+use Rattle.rq_cluster.specs.Refines.{Does}
 use Rattle.rq_cluster.proofs.Servers.{of_some, of_none}
 use Rattle.rq_cluster.proofs.Worlds.{does_bytes, breaks_bytes, outside_bytes, outside_unread, on_ok_map}
 use Rattle.rq_cluster.proofs.world.World.step_on.Goals as goal

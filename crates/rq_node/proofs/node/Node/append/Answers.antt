@@ -3,12 +3,12 @@ use Rattle.rq_values.specs.Exact.{AreBytes}
 use Rattle.rq_node.specs.contracts.node.State.{the_view}
 use Rattle.rq_node.specs.declared.log_entry.LogEntry.{LogEntry}
 use Rattle.rq_node.specs.declared.log_entry.Content.TheVariants.{Execute}
-use Rattle.rq_node.specs.Node.{Node, Kept, Splice, kept_of}
+use Rattle.rq_node.specs.Node.{Node, Persistent, Splice, persistent_of}
 use Rattle.rq_node.specs.Rules.{taken_up, entry_in}
 use Rattle.rq_node.specs.Sound.{AreReadable, most_bytes}
-use Rattle.rq_node.specs.Standing.{HasFile, IsBroken, Moments}
+use Rattle.rq_node.specs.Recovery.{HasFile, IsBroken, Moments}
 use Rattle.rq_node.proofs.Allowed.{taken_allowed}
-use Rattle.rq_node.proofs.Kept.{kept_taken, taken_frames}
+use Rattle.rq_node.proofs.Persistent.{kept_taken, taken_frames}
 use Rattle.rq_node.proofs.Readable.{readable_more}
 use Rattle.rq_node.proofs.node.Node.append.Goals as goal
 
@@ -18,11 +18,11 @@ returns-in-Err-clause-failed g c = λ refused.
     let means = g.D.Disk.means in
     let v = the_view c.state.inside in
     let at : c.in_ok-index.index ≡ length v.log + 1 = c.in_ok-index.ensures ∙ ap (λ (k : Node). length k.log + 1) (sym c.state.view_is) in
-    let has = subst (λ (k : Node). HasFile told means c.args.disks.now k.id (kept_of k) c.args.self.now.file) (sym c.state.view_is) c.requires.open in
+    let has = subst (λ (k : Node). HasFile told means c.args.disks.now k.id (persistent_of k) c.args.self.now.file) (sym c.state.view_is) c.requires.open in
     let frames = taken_frames v c.args.number c.args.items c.in_ok-splice.splice c.in_ok-index.index c.args.command c.in_ok-splice.ensures.frame c.requires.spelled at in
     let allowed = taken_allowed v c.args.number c.args.items c.splice_of.ensures.term (subst (λ (k : ℕ). k < 2 ^ 64) at c.splice_of.ensures.index) (subst (λ (l : List ℕ). length l ≤ most_bytes) c.requires.spelled c.requires.fits) (subst AreBytes c.requires.spelled c.requires.bytes) in
-    subst (λ (k : Node). IsBroken told means c.args.disks.now c.store.new.disks k.id (kept_of k) (taken_up k c.args.number c.args.items).durable) c.state.view_is
-    (c.store.ensures.failed (c.in-Err.is ∙ refused) v.id (kept_of v) (Splice (length v.log + 1) (entry_in v (Execute c.args.items) ∷ [])) [] frames allowed has)
+    subst (λ (k : Node). IsBroken told means c.args.disks.now c.store.new.disks k.id (persistent_of k) (taken_up k c.args.number c.args.items).records) c.state.view_is
+    (c.store.ensures.failed (c.in-Err.is ∙ refused) v.id (persistent_of v) (Splice (length v.log + 1) (entry_in v (Execute c.args.items) ∷ [])) [] frames allowed has)
 
 pub returns-in-Err-clause-no_memory : goal.returns-in-Err-clause-no_memory
 returns-in-Err-clause-no_memory g c = λ none.
@@ -30,9 +30,9 @@ returns-in-Err-clause-no_memory g c = λ none.
     let means = g.D.Disk.means in
     let v = the_view c.state.inside in
     let at : c.in_ok-index.index ≡ length v.log + 1 = c.in_ok-index.ensures ∙ ap (λ (k : Node). length k.log + 1) (sym c.state.view_is) in
-    let has = subst (λ (k : Node). HasFile told means c.args.disks.now k.id (kept_of k) c.args.self.now.file) (sym c.state.view_is) c.requires.open in
-    subst (λ (l : List LogEntry). HasFile told means c.store.new.disks v.id (record (kept_of v) { log = l }) c.store.new.file) (sym {A = List LogEntry} c.reserve.ensures.items)
-    (c.store.ensures.no_memory (c.in-Err.is ∙ none) v.id (kept_of v) has)
+    let has = subst (λ (k : Node). HasFile told means c.args.disks.now k.id (persistent_of k) c.args.self.now.file) (sym c.state.view_is) c.requires.open in
+    subst (λ (l : List LogEntry). HasFile told means c.store.new.disks v.id (record (persistent_of v) { log = l }) c.store.new.file) (sym {A = List LogEntry} c.reserve.ensures.items)
+    (c.store.ensures.no_memory (c.in-Err.is ∙ none) v.id (persistent_of v) has)
 
 pub invariant_of-state-2 : goal.invariant_of-state-2
 invariant_of-state-2 g c =
@@ -52,16 +52,16 @@ returns-clause-open g c =
     let means = g.D.Disk.means in
     let v = the_view c.state.inside in
     let at : c.in_ok-index.index ≡ length v.log + 1 = c.in_ok-index.ensures ∙ ap (λ (k : Node). length k.log + 1) (sym c.state.view_is) in
-    let has = subst (λ (k : Node). HasFile told means c.args.disks.now k.id (kept_of k) c.args.self.now.file) (sym c.state.view_is) c.requires.open in
+    let has = subst (λ (k : Node). HasFile told means c.args.disks.now k.id (persistent_of k) c.args.self.now.file) (sym c.state.view_is) c.requires.open in
     let frames = taken_frames v c.args.number c.args.items c.in_ok-splice.splice c.in_ok-index.index c.args.command c.in_ok-splice.ensures.frame c.requires.spelled at in
     let allowed = taken_allowed v c.args.number c.args.items c.splice_of.ensures.term (subst (λ (k : ℕ). k < 2 ^ 64) at c.splice_of.ensures.index) (subst (λ (l : List ℕ). length l ≤ most_bytes) c.requires.spelled c.requires.fits) (subst AreBytes c.requires.spelled c.requires.bytes) in
     let grown : c.push_reserved.new.self.items ≡ v.log ++ record { term = v.term; content = Execute c.args.items } ∷ [] = cc (c.push_reserved.ensures.items, c.reserve.ensures.items) in
-    subst (λ (l : List LogEntry). HasFile told means c.store.new.disks v.id (record (kept_of (taken_up v c.args.number c.args.items).node) { log = l }) c.store.new.file) (sym grown)
-    (subst (λ (k : Kept). HasFile told means c.store.new.disks v.id k c.store.new.file) (kept_taken v c.args.number c.args.items)
-    (c.in-Ok.ensures.ok v.id (kept_of v) (taken_up v c.args.number c.args.items).durable frames allowed has))
+    subst (λ (l : List LogEntry). HasFile told means c.store.new.disks v.id (record (persistent_of (taken_up v c.args.number c.args.items).node) { log = l }) c.store.new.file) (sym grown)
+    (subst (λ (k : Persistent). HasFile told means c.store.new.disks v.id k c.store.new.file) (kept_taken v c.args.number c.args.items)
+    (c.in-Ok.ensures.ok v.id (persistent_of v) (taken_up v c.args.number c.args.items).records frames allowed has))
 
 pub store-requires-clause-open : goal.store-requires-clause-open
-store-requires-clause-open g c κs within = (c.args.self.now.state.id, kept_of c.args.self.now.state, c.requires.open)
+store-requires-clause-open g c κs within = (c.args.self.now.state.id, persistent_of c.args.self.now.state, c.requires.open)
 
 pub returns-in-Err-clause-moments : goal.returns-in-Err-clause-moments
 returns-in-Err-clause-moments g c =
@@ -69,11 +69,11 @@ returns-in-Err-clause-moments g c =
     let means = g.D.Disk.means in
     let v = the_view c.state.inside in
     let at : c.in_ok-index.index ≡ length v.log + 1 = c.in_ok-index.ensures ∙ ap (λ (k : Node). length k.log + 1) (sym c.state.view_is) in
-    let has = subst (λ (k : Node). HasFile told means c.args.disks.now k.id (kept_of k) c.args.self.now.file) (sym c.state.view_is) c.requires.open in
+    let has = subst (λ (k : Node). HasFile told means c.args.disks.now k.id (persistent_of k) c.args.self.now.file) (sym c.state.view_is) c.requires.open in
     let frames = taken_frames v c.args.number c.args.items c.in_ok-splice.splice c.in_ok-index.index c.args.command c.in_ok-splice.ensures.frame c.requires.spelled at in
     let allowed = taken_allowed v c.args.number c.args.items c.splice_of.ensures.term (subst (λ (k : ℕ). k < 2 ^ 64) at c.splice_of.ensures.index) (subst (λ (l : List ℕ). length l ≤ most_bytes) c.requires.spelled c.requires.fits) (subst AreBytes c.requires.spelled c.requires.bytes) in
-    subst (λ (k : Node). Moments told means c.args.disks.now c.store.new.disks k.id (kept_of k) (taken_up k c.args.number c.args.items).durable) c.state.view_is
-    (c.store.ensures.moments v.id (kept_of v) (taken_up v c.args.number c.args.items).durable frames allowed has)
+    subst (λ (k : Node). Moments told means c.args.disks.now c.store.new.disks k.id (persistent_of k) (taken_up k c.args.number c.args.items).records) c.state.view_is
+    (c.store.ensures.moments v.id (persistent_of v) (taken_up v c.args.number c.args.items).records frames allowed has)
 
 pub returns-clause-moments : goal.returns-clause-moments
 returns-clause-moments g c =
@@ -81,8 +81,8 @@ returns-clause-moments g c =
     let means = g.D.Disk.means in
     let v = the_view c.state.inside in
     let at : c.in_ok-index.index ≡ length v.log + 1 = c.in_ok-index.ensures ∙ ap (λ (k : Node). length k.log + 1) (sym c.state.view_is) in
-    let has = subst (λ (k : Node). HasFile told means c.args.disks.now k.id (kept_of k) c.args.self.now.file) (sym c.state.view_is) c.requires.open in
+    let has = subst (λ (k : Node). HasFile told means c.args.disks.now k.id (persistent_of k) c.args.self.now.file) (sym c.state.view_is) c.requires.open in
     let frames = taken_frames v c.args.number c.args.items c.in_ok-splice.splice c.in_ok-index.index c.args.command c.in_ok-splice.ensures.frame c.requires.spelled at in
     let allowed = taken_allowed v c.args.number c.args.items c.splice_of.ensures.term (subst (λ (k : ℕ). k < 2 ^ 64) at c.splice_of.ensures.index) (subst (λ (l : List ℕ). length l ≤ most_bytes) c.requires.spelled c.requires.fits) (subst AreBytes c.requires.spelled c.requires.bytes) in
-    subst (λ (k : Node). Moments told means c.args.disks.now c.store.new.disks k.id (kept_of k) (taken_up k c.args.number c.args.items).durable) c.state.view_is
-    (c.store.ensures.moments v.id (kept_of v) (taken_up v c.args.number c.args.items).durable frames allowed has)
+    subst (λ (k : Node). Moments told means c.args.disks.now c.store.new.disks k.id (persistent_of k) (taken_up k c.args.number c.args.items).records) c.state.view_is
+    (c.store.ensures.moments v.id (persistent_of v) (taken_up v c.args.number c.args.items).records frames allowed has)

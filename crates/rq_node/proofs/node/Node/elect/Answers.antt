@@ -1,15 +1,15 @@
 use Rattle.std.proofs.Common.{rules, ◌≡◌, sym, subst}
-use Rattle.rq_node.specs.Node.{Turn, kept_of}
+use Rattle.rq_node.specs.Node.{Turn, persistent_of}
 use Rattle.rq_node.specs.Rules.{elect, led}
-use Rattle.rq_node.specs.Standing.{Moments}
+use Rattle.rq_node.specs.Recovery.{Moments}
 use Rattle.rq_node.proofs.node.Node.elect.Goals as goal
 
 pub returns-in_err-lead-clause-moments : goal.returns-in_err-lead-clause-moments
 returns-in_err-lead-clause-moments g c =
     let same : elect c.args.self.now.state ≡ led c.args.self.now.state = search rules in
-    subst (λ (t : Turn). Moments g.D.Disk.told g.D.Disk.means c.args.disks.now c.lead.new.disks c.args.self.now.state.id (kept_of c.args.self.now.state) t.durable) (sym same) c.lead.ensures.moments
+    subst (λ (t : Turn). Moments g.D.Disk.told g.D.Disk.means c.args.disks.now c.lead.new.disks c.args.self.now.state.id (persistent_of c.args.self.now.state) t.records) (sym same) c.lead.ensures.moments
 
 pub returns-clause-moments : goal.returns-clause-moments
 returns-clause-moments g c =
     let same : elect c.args.self.now.state ≡ led c.args.self.now.state = search rules in
-    subst (λ (t : Turn). Moments g.D.Disk.told g.D.Disk.means c.args.disks.now c.lead.new.disks c.args.self.now.state.id (kept_of c.args.self.now.state) t.durable) (sym same) c.lead.ensures.moments
+    subst (λ (t : Turn). Moments g.D.Disk.told g.D.Disk.means c.args.disks.now c.lead.new.disks c.args.self.now.state.id (persistent_of c.args.self.now.state) t.records) (sym same) c.lead.ensures.moments

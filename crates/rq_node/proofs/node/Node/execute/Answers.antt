@@ -1,15 +1,15 @@
 use Rattle.std.proofs.Common.{rules, ◌≡◌, sym, subst}
-use Rattle.rq_node.specs.Node.{Turn, kept_of}
+use Rattle.rq_node.specs.Node.{Turn, persistent_of}
 use Rattle.rq_node.specs.Rules.{execute, taken_up}
-use Rattle.rq_node.specs.Standing.{Moments}
+use Rattle.rq_node.specs.Recovery.{Moments}
 use Rattle.rq_node.proofs.node.Node.execute.Goals as goal
 
 pub returns-in_err-append-clause-moments : goal.returns-in_err-append-clause-moments
 returns-in_err-append-clause-moments g c =
     let same : execute c.args.self.now.state c.args.number c.args.items ≡ taken_up c.args.self.now.state c.args.number c.args.items = search rules in
-    subst (λ (t : Turn). Moments g.D.Disk.told g.D.Disk.means c.args.disks.now c.append.new.disks c.args.self.now.state.id (kept_of c.args.self.now.state) t.durable) (sym same) c.append.ensures.moments
+    subst (λ (t : Turn). Moments g.D.Disk.told g.D.Disk.means c.args.disks.now c.append.new.disks c.args.self.now.state.id (persistent_of c.args.self.now.state) t.records) (sym same) c.append.ensures.moments
 
 pub returns-clause-moments : goal.returns-clause-moments
 returns-clause-moments g c =
     let same : execute c.args.self.now.state c.args.number c.args.items ≡ taken_up c.args.self.now.state c.args.number c.args.items = search rules in
-    subst (λ (t : Turn). Moments g.D.Disk.told g.D.Disk.means c.args.disks.now c.append.new.disks c.args.self.now.state.id (kept_of c.args.self.now.state) t.durable) (sym same) c.append.ensures.moments
+    subst (λ (t : Turn). Moments g.D.Disk.told g.D.Disk.means c.args.disks.now c.append.new.disks c.args.self.now.state.id (persistent_of c.args.self.now.state) t.records) (sym same) c.append.ensures.moments

@@ -3,13 +3,13 @@ use Rattle.rq_wal.specs.declared.base.Stored.{Stored}
 use Rattle.rq_wal.specs.Current.{IsCurrent, EachImageGives}
 use Rattle.rq_node.specs.declared.node.Node.{Node as Running}
 use Rattle.rq_node.specs.Files.{first_base, stored_of}
-use Rattle.rq_node.specs.Node.{Node, Boot, kept_after}
+use Rattle.rq_node.specs.Node.{Node, Boot, persistent_after}
 use Rattle.rq_node.specs.Opened.{IsRefusal, IsStart}
 use Rattle.rq_node.specs.Rules.{started}
 use Rattle.rq_outside.specs.Pair.{disk_at}
 use Rattle.rq_outside.specs.declared.pair.FileNo.TheVariants.{One, Two}
 use Rattle.rq_wal.specs.Reading.{pair_gives}
-use Rattle.rq_node.specs.Standing.{Stands}
+use Rattle.rq_node.specs.Recovery.{Stands}
 use Rattle.rq_node.proofs.Openings.{current_base, taken, some_given, failed_boot, started_file, booted, ok_more, boot_refused, files_refused, refuses_more, state_refused}
 use Rattle.rq_node.proofs.FileSteps.{pair_later}
 use Rattle.rq_node.proofs.node.Node.open.Goals as goal
@@ -29,8 +29,8 @@ pub returns-in-Ok-started_state-clause-node : goal.returns-in-Ok-started_state-c
 returns-in-Ok-started_state-clause-node g c = λ tells kept items can stands.
     let some = c.in-Ok.ensures.given tells kept items stands in
     let t = taken c.args.id kept items c.in-Ok.stored can some in
-    let same = c.in-Ok-started_state.ensures.ok (kept_after kept (take t.k items)) t.readable t.is in
-    ok_more c.store_boot.result (λ (n : Running). n.state ≡ c.in-Ok-started_state.state) (λ (n : Running). (k : ℕ) × (n.state ≡ (started c.args.id (kept_after kept (take k items))).node))
+    let same = c.in-Ok-started_state.ensures.ok (persistent_after kept (take t.k items)) t.readable t.is in
+    ok_more c.store_boot.result (λ (n : Running). n.state ≡ c.in-Ok-started_state.state) (λ (n : Running). (k : ℕ) × (n.state ≡ (started c.args.id (persistent_after kept (take k items))).node))
     (λ n is. (t.k, subst (λ (s : Node). n.state ≡ s) same is)) c.store_boot.ensures.state
 
 pub returns-in-Ok-started_state-clause-open : goal.returns-in-Ok-started_state-clause-open
@@ -60,7 +60,7 @@ returns-in-Ok-started_state-clause-refused g c = λ tells kept items can stands.
     let means = g.D.Disk.means in
     let state = c.in-Ok-started_state.state in
     let t = taken c.args.id kept items c.in-Ok.stored can (c.in-Ok.ensures.given tells kept items stands) in
-    let now = kept_after kept (take t.k items) in
+    let now = persistent_after kept (take t.k items) in
     let same = c.in-Ok-started_state.ensures.ok now t.readable t.is in
     let has = started_file told means c.open_files.new.disks c.args.id c.in-Ok.wal c.in-Ok.stored c.in-Ok.ensures.current state now same (λ _. t.is) in
     boot_refused c.store_boot.result (Stands told means c.store_boot.new.disks c.args.id kept items) c.store_boot.ensures.refused
@@ -70,7 +70,7 @@ returns-in-Ok-started_state-clause-refused g c = λ tells kept items can stands.
 pub returns-in-Err-started_state-clause-refused : goal.returns-in-Err-started_state-clause-refused
 returns-in-Err-started_state-clause-refused g c = λ tells kept items can stands.
     let t = taken c.args.id kept items c.in-Ok.stored can (c.in-Ok.ensures.given tells kept items stands) in
-    inr (c.open_files.ensures.stands kept items stands, c.in-Err-started_state.ensures.refused (kept_after kept (take t.k items)) t.readable t.is)
+    inr (c.open_files.ensures.stands kept items stands, c.in-Err-started_state.ensures.refused (persistent_after kept (take t.k items)) t.readable t.is)
 
 pub returns-in-Err-clause-refused : goal.returns-in-Err-clause-refused
 returns-in-Err-clause-refused g c = λ tells kept items can stands.

@@ -6,7 +6,7 @@ use Rattle.rq_node.proofs.NodeSteps.{times_go_on, falls_by_one, times_none}
 use Rattle.rq_node.proofs.node.State.apply.Goals as goal
 
 pub loop-self-init : goal.loop-self-init
-loop-self-init c = ap (λ (l : List Answer). apply_times (c.args.self.now.commit - c.args.self.now.applied) (record { node = c.args.self.now; durable = []; answers = l })) c.new-answers.ensures
+loop-self-init c = ap (λ (l : List Answer). apply_times (c.args.self.now.commit - c.args.self.now.applied) (record { node = c.args.self.now; records = []; answers = l })) c.new-answers.ensures
 
 pub loop-self-preserved : goal.loop-self-preserved
 loop-self-preserved c =
@@ -21,8 +21,8 @@ loop-self-smaller c =
 
 pub returns-clause-node : goal.returns-clause-node
 returns-clause-node c =
-    ap (λ (t : Turn). t.node) (sym (times_none c.loop-self.self.applied c.loop-self.self.commit (record { node = c.loop-self.self; durable = []; answers = c.loop-self.answers }) (λ less. let more = subst (λ (k : Node). k.commit ≤ k.applied) c.self.view_is c.loop-self-test.false in omega arith)) ∙ c.loop-self.invariant)
+    ap (λ (t : Turn). t.node) (sym (times_none c.loop-self.self.applied c.loop-self.self.commit (record { node = c.loop-self.self; records = []; answers = c.loop-self.answers }) (λ less. let more = subst (λ (k : Node). k.commit ≤ k.applied) c.self.view_is c.loop-self-test.false in omega arith)) ∙ c.loop-self.invariant)
 
 pub returns-clause-answers : goal.returns-clause-answers
 returns-clause-answers c =
-    ap (λ (t : Turn). t.answers) (sym (times_none c.loop-self.self.applied c.loop-self.self.commit (record { node = c.loop-self.self; durable = []; answers = c.loop-self.answers }) (λ less. let more = subst (λ (k : Node). k.commit ≤ k.applied) c.self.view_is c.loop-self-test.false in omega arith)) ∙ c.loop-self.invariant)
+    ap (λ (t : Turn). t.answers) (sym (times_none c.loop-self.self.applied c.loop-self.self.commit (record { node = c.loop-self.self; records = []; answers = c.loop-self.answers }) (λ less. let more = subst (λ (k : Node). k.commit ≤ k.applied) c.self.view_is c.loop-self-test.false in omega arith)) ∙ c.loop-self.invariant)

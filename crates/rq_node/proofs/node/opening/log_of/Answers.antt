@@ -2,7 +2,7 @@ use Rattle.std.proofs.Common.{◌≡◌, ◌∷◌, ◌++◌, ◌+◌, [], List,
 use Rattle.rq_node.specs.declared.log_entry.LogEntry.{LogEntry}
 use Rattle.rq_node.specs.Files.{stored_entry}
 use Rattle.rq_node.specs.Sound.{AreReadable}
-use Rattle.rq_node.proofs.Readable.{IsFront, readable_more, spelled_more, front_more, place_in, stored_at}
+use Rattle.rq_node.proofs.Readable.{IsPrefixOf, readable_more, spelled_more, prefix_more, place_in, stored_at}
 use Rattle.rq_node.proofs.Refusals.{no_log}
 use Rattle.rq_node.proofs.node.opening.log_of.Goals as goal
 
@@ -18,8 +18,8 @@ loop-place-preserved c =
       readable = subst AreReadable (sym grown) (readable_more c.loop-place.log.items c.in-Ok.entry c.loop-place.invariant.readable c.in-Ok.ensures.readable);
       spelled = subst (λ (l : List LogEntry). take (c.loop-place.place + 1) c.args.entries.now ≡ map stored_entry l) (sym grown)
           (spelled_more c.args.entries.now c.loop-place.place c.index-entries-place.result c.loop-place.log.items c.in-Ok.entry c.loop-place-test.true c.index-entries-place.is c.in-Ok.ensures.spelled c.loop-place.invariant.spelled);
-      front = subst (IsFront c.args.entries.now (c.loop-place.place + 1)) (sym grown)
-          (front_more c.args.entries.now c.loop-place.place c.loop-place.log.items c.index-entries-place.result c.in-Ok.entry c.loop-place-test.true c.index-entries-place.is c.in-Ok.ensures.ok c.loop-place.invariant.front);
+      prefix = subst (IsPrefixOf c.args.entries.now (c.loop-place.place + 1)) (sym grown)
+          (prefix_more c.args.entries.now c.loop-place.place c.loop-place.log.items c.index-entries-place.result c.in-Ok.entry c.loop-place-test.true c.index-entries-place.is c.in-Ok.ensures.ok c.loop-place.invariant.prefix);
     }
 
 pub returns-in-Err-clause-wrong : goal.returns-in-Err-clause-wrong

@@ -1,12 +1,12 @@
 use Rattle.std.proofs.Common.{◌≡◌, take, map}
 use Rattle.rq_node.specs.Files.{stored_entry}
 use Rattle.rq_node.specs.Sound.{AreReadable}
-use Rattle.rq_node.proofs.Readable.{IsFront}
+use Rattle.rq_node.proofs.Readable.{IsPrefixOf}
 use Rattle.rq_node.proofs.node.opening.log_of.Given as goal
 
 abbrev pub invariant-loop-place : goal.invariant-loop-place
 invariant-loop-place l = record {
   readable : AreReadable l.log.items;
   spelled : take l.place l.entries ≡ map stored_entry l.log.items;
-  front : IsFront l.entries l.place l.log.items;
+  prefix : IsPrefixOf l.entries l.place l.log.items;
 }

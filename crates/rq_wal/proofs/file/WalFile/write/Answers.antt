@@ -9,7 +9,7 @@ use Rattle.rq_wal.proofs.ImagesNow.{since_now_at}
 use Rattle.rq_wal.proofs.LogMore.{current_more, some_stand}
 use Rattle.rq_wal.proofs.Moments.{weaker}
 use Rattle.rq_wal.proofs.Since.{since_began}
-use Rattle.rq_wal.proofs.Standing.{images_give}
+use Rattle.rq_wal.proofs.Recovery.{images_give}
 use Rattle.rq_wal.proofs.file.WalFile.write.Goals as goal
 
 pub returns-clause-written : goal.returns-clause-written

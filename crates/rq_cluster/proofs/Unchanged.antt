@@ -9,46 +9,46 @@ use Rattle.rq_node.specs.declared.log_entry.LogEntry.{LogEntry}
 use Rattle.rq_node.specs.declared.log_entry.Content.{Content}
 use Rattle.rq_node.specs.declared.log_entry.Content.TheVariants.{NoOp, Execute}
 use Rattle.rq_node.specs.declared.node.Node.{Node as RunningNode}
-use Rattle.rq_node.specs.Node.{Node, Kept, Durable, Turn, quiet, kept_of}
+use Rattle.rq_node.specs.Node.{Node, Persistent, StoredRecord, Turn, unchanged, persistent_of}
 use Rattle.rq_node.specs.Rules.{query, apply, apply_times, apply_next, applied_entry, applied_content}
-use Rattle.rq_node.specs.Standing.{HasFile, IsOpen}
+use Rattle.rq_node.specs.Recovery.{HasFile, IsOpen}
 use Rattle.rq_script.specs.Cluster.{Stand, Running, Down, Armed, Server, Course, fate, ended, left_after, needed, whole, happens_at, shown}
 use Rattle.rq_script.specs.ScriptText.{answers_text, show_text, show_down_text}
 use Rattle.rq_cluster.specs.Acting.{event, Applies, Queries, ShownAs, shown_at}
 use Rattle.rq_cluster.specs.declared.host.Host.{Host}
-use Rattle.rq_cluster.specs.Shown.{ShowsServer, ShowsStand, NodeReady, HostReady, Goes, armed_of}
+use Rattle.rq_cluster.specs.Refines.{ShowsServer, ShowsStand, NodeReady, HostReady, Goes, armed_of}
 use Rattle.rq_cluster.proofs.Turns.{node_shown, down_shown, happens_down}
 use Rattle.rq_cluster.proofs.Servers.{show_act}
 
 -- ---- applying stores nothing, and changes nothing of what a node keeps
 
 -- of the same server, with the same on its disks
-pub record IsQuiet (n : Node) (turn : Turn) : Type 0 where
+pub record IsUnchanged (n : Node) (turn : Turn) : Type 0 where
   pub id : turn.node.id ≡ n.id
-  pub kept : kept_of turn.node ≡ kept_of n
-  pub durable : turn.durable ≡ []
+  pub kept : persistent_of turn.node ≡ persistent_of n
+  pub records : turn.records ≡ []
 
-entry_quiet : (n : Node) (entry : Option LogEntry) → IsQuiet n (applied_entry n entry)
-entry_quiet n None = record { id = refl; kept = refl; durable = refl }
-entry_quiet n (Some entry) = by entry.content
+entry_unchanged : (n : Node) (entry : Option LogEntry) → IsUnchanged n (applied_entry n entry)
+entry_unchanged n None = record { id = refl; kept = refl; records = refl }
+entry_unchanged n (Some entry) = by entry.content
   where
-    by : (content : Content) → IsQuiet n (applied_content n (n.applied + 1) content)
-    by NoOp = record { id = refl; kept = refl; durable = refl }
-    by (Execute items) = record { id = refl; kept = refl; durable = refl }
+    by : (content : Content) → IsUnchanged n (applied_content n (n.applied + 1) content)
+    by NoOp = record { id = refl; kept = refl; records = refl }
+    by (Execute items) = record { id = refl; kept = refl; records = refl }
 
-times_quiet : (k : ℕ) (n : Node) (turn : Turn) → IsQuiet n turn → IsQuiet n (apply_times k turn)
+times_unchanged : (k : ℕ) (n : Node) (turn : Turn) → IsUnchanged n turn → IsUnchanged n (apply_times k turn)
 unfolding apply_times
-times_quiet zero n turn is = is
-times_quiet (suc k) n turn is =
-    let one = entry_quiet turn.node (slice_get turn.node.log turn.node.applied) in
-    times_quiet k n (apply_next turn) (record {
+times_unchanged zero n turn is = is
+times_unchanged (suc k) n turn is =
+    let one = entry_unchanged turn.node (slice_get turn.node.log turn.node.applied) in
+    times_unchanged k n (apply_next turn) (record {
       id = one.id ∙ is.id;
       kept = one.kept ∙ is.kept;
-      durable = ap (λ (d : List Durable). turn.durable ++ d) one.durable ∙ append-nil turn.durable ∙ is.durable;
+      records = ap (λ (d : List StoredRecord). turn.records ++ d) one.records ∙ append-nil turn.records ∙ is.records;
     })
 
-apply_quiet : (n : Node) → IsQuiet n (apply n)
-apply_quiet n = times_quiet (n.commit - n.applied) n (quiet n) (record { id = refl; kept = refl; durable = refl })
+apply_unchanged : (n : Node) → IsUnchanged n (apply n)
+apply_unchanged n = times_unchanged (n.commit - n.applied) n (unchanged n) (record { id = refl; kept = refl; records = refl })
 
 -- ---- an event that stores nothing
 
@@ -57,12 +57,12 @@ left_none None = refl
 left_none (Some armed) = ap (λ (k : ℕ). Some (record armed { calls = k })) (omega arith)
 
 -- it is done
-quiet_happens : (s : Server) (n : Node) (rule : Node → Turn) (asked : List ℕ) → s.stand ≡ Running n → (rule n).durable ≡ []
+unchanged_happens : (s : Server) (n : Node) (rule : Node → Turn) (asked : List ℕ) → s.stand ≡ Running n → (rule n).records ≡ []
     → happens_at whole s rule asked ≡ (record s { stand = Running (rule n).node }, answers_text (rule n).answers)
-quiet_happens s n rule asked is stores =
+unchanged_happens s n rule asked is stores =
     ap (λ (st : Stand). happens_at whole (record s { stand = st }) rule asked) is
-    ∙ ap (λ (d : List Durable). ended (fate whole s.armed d) whole (record s { stand = Running n }) n (rule n) asked) stores
-    ∙ ap (λ (d : List Durable). (record s { stand = Running (rule n).node; armed = left_after s.armed (needed d) }, answers_text (rule n).answers)) stores
+    ∙ ap (λ (d : List StoredRecord). ended (fate whole s.armed d) whole (record s { stand = Running n }) n (rule n) asked) stores
+    ∙ ap (λ (d : List StoredRecord). (record s { stand = Running (rule n).node; armed = left_after s.armed (needed d) }, answers_text (rule n).answers)) stores
     ∙ ap (λ (a : Option Armed). (record s { stand = Running (rule n).node; armed = a }, answers_text (rule n).answers)) (left_none s.armed)
 
 module _ {D F : Type 0} (told : Bool) (means : D → DiskMeaning) where
@@ -78,8 +78,8 @@ module _ {D F : Type 0} (told : Bool) (means : D → DiskMeaning) where
         subst (λ (u : Server × List ℕ). ShowsServer told means start pair to u.0 × (text ≡ before ++ u.1)) (sym is) (shows_next, was) in
         (whole, both.0, both.1)
 
-    pub down_quiet : from.node ≡ None → to.node ≡ None → to.lost.items ≡ from.lost.items ++ asked → text ≡ before → Goal
-    down_quiet none none_to lost same =
+    pub down_unchanged : from.node ≡ None → to.node ≡ None → to.lost.items ≡ from.lost.items ++ asked → text ≡ before → Goal
+    down_unchanged none none_to lost same =
         let down = down_shown told means start pair from s shows none in
         with_course (record s { lost = s.lost ++ asked }, []) (happens_down whole s down.kept down.rest rule asked down.stand)
         (record {
@@ -95,18 +95,18 @@ module _ {D F : Type 0} (told : Bool) (means : D → DiskMeaning) where
         })
         (same ∙ sym (append-nil before))
 
-    pub running_quiet : (node after : RunningNode) → from.node ≡ Some node → to.node ≡ Some after → after.state ≡ (rule node.state).node → after.file ≡ node.file → ((n : Node) → IsQuiet n (rule n))
+    pub running_unchanged : (node after : RunningNode) → from.node ≡ Some node → to.node ≡ Some after → after.state ≡ (rule node.state).node → after.file ≡ node.file → ((n : Node) → IsUnchanged n (rule n))
         → to.lost.items ≡ from.lost.items → text ≡ before ++ answers_text (rule node.state).answers → Goal
-    running_quiet node after runs runs_to state file is_quiet lost was =
+    running_unchanged node after runs runs_to state file is_unchanged lost was =
         let at = node_shown told means start pair from s shows node runs in
         let n = at.n in
-        let q = is_quiet node.state in
-        let opened : HasFile told means pair after.state.id (kept_of after.state) after.file =
-        subst (λ (m : Node). HasFile told means pair m.id (kept_of m) after.file) (sym state)
-        (subst (λ (i : List ℕ). HasFile told means pair i (kept_of (rule node.state).node) after.file) (sym q.id)
-        (subst (λ (k : Kept). HasFile told means pair node.state.id k after.file) (sym q.kept)
-        (subst (λ (f : Option WalFile). HasFile told means pair node.state.id (kept_of node.state) f) (sym file) at.opened))) in
-        with_course (record s { stand = Running (rule n).node }, answers_text (rule n).answers) (quiet_happens s n rule asked at.stand (is_quiet n).durable)
+        let q = is_unchanged node.state in
+        let opened : HasFile told means pair after.state.id (persistent_of after.state) after.file =
+        subst (λ (m : Node). HasFile told means pair m.id (persistent_of m) after.file) (sym state)
+        (subst (λ (i : List ℕ). HasFile told means pair i (persistent_of (rule node.state).node) after.file) (sym q.id)
+        (subst (λ (k : Persistent). HasFile told means pair node.state.id k after.file) (sym q.kept)
+        (subst (λ (f : Option WalFile). HasFile told means pair node.state.id (persistent_of node.state) f) (sym file) at.opened))) in
+        with_course (record s { stand = Running (rule n).node }, answers_text (rule n).answers) (unchanged_happens s n rule asked at.stand (is_unchanged n).records)
         (record {
           tells = shows.tells;
           id = shows.id ∙ sym id;
@@ -116,7 +116,7 @@ module _ {D F : Type 0} (told : Bool) (means : D → DiskMeaning) where
           arm = shows.arm;
           rises = shows.rises;
           stand = subst (λ (o : Option RunningNode). ShowsStand told means pair s.id o (Running (rule n).node)) (sym runs_to)
-              (state ∙ ap (λ (m : Node). (rule m).node) at.state, (is_quiet n).id ∙ at.named, opened);
+              (state ∙ ap (λ (m : Node). (rule m).node) at.state, (is_unchanged n).id ∙ at.named, opened);
           spent = λ none. (let e = sym runs_to ∙ none in absurd (cc));
         })
         (was ∙ ap (λ (m : Node). before ++ answers_text (rule m).answers) at.state)
@@ -127,12 +127,12 @@ module _ {D F : Type 0} (told : Bool) (means : D → DiskMeaning) where
       by : (o : Option RunningNode) → from.node ≡ o → (course : Course) × ShowsServer told means start pair to (event apply [] course s).0 × (text ≡ before ++ (event apply [] course s).1)
       by None none =
           let d = applies.down none in
-          down_quiet pair from to apply [] before text start s shows (ap (λ (h : Host). h.id) d.0) (ap (λ (h : Host). h.armed) d.0) (ap (λ (h : Host). h.failures) d.0)
+          down_unchanged pair from to apply [] before text start s shows (ap (λ (h : Host). h.id) d.0) (ap (λ (h : Host). h.armed) d.0) (ap (λ (h : Host). h.failures) d.0)
           none (ap (λ (h : Host). h.node) d.0 ∙ none) (ap (λ (h : Host). h.lost.items) d.0 ∙ sym (append-nil from.lost.items)) d.1
       by (Some node) runs =
           let d = applies.running node runs in
-          running_quiet pair from to apply [] before text start s shows (ap (λ (h : Host). h.id) d.1) (ap (λ (h : Host). h.armed) d.1) (ap (λ (h : Host). h.failures) d.1)
-          node d.0 runs (ap (λ (h : Host). h.node) d.1) d.2 d.3 apply_quiet (ap (λ (h : Host). h.lost.items) d.1) d.4
+          running_unchanged pair from to apply [] before text start s shows (ap (λ (h : Host). h.id) d.1) (ap (λ (h : Host). h.armed) d.1) (ap (λ (h : Host). h.failures) d.1)
+          node d.0 runs (ap (λ (h : Host). h.node) d.1) d.2 d.3 apply_unchanged (ap (λ (h : Host). h.lost.items) d.1) d.4
 
   pub queries_goes : (pair : DiskPair D F) (number : ℕ) (items : List Item) (from to : Host) (before text : List ℕ) → Queries number items from to before text
       → Goes told means (event (λ n. query n number items) (number ∷ [])) pair pair from to before text
@@ -145,11 +145,11 @@ module _ {D F : Type 0} (told : Bool) (means : D → DiskMeaning) where
           → (course : Course) × ShowsServer told means start pair to (event (λ n. query n number items) (number ∷ []) course s).0 × (text ≡ before ++ (event (λ n. query n number items) (number ∷ []) course s).1)
       by None none =
           let d = asks.down none in
-          down_quiet pair from to (λ n. query n number items) (number ∷ []) before text start s shows asks.id asks.armed asks.failures none (asks.node ∙ none) d.0 d.1
+          down_unchanged pair from to (λ n. query n number items) (number ∷ []) before text start s shows asks.id asks.armed asks.failures none (asks.node ∙ none) d.0 d.1
       by (Some node) runs =
           let d = asks.running node runs in
-          running_quiet pair from to (λ n. query n number items) (number ∷ []) before text start s shows asks.id asks.armed asks.failures node node runs (asks.node ∙ runs) refl refl
-          (λ n. record { id = refl; kept = refl; durable = refl }) d.0 d.1
+          running_unchanged pair from to (λ n. query n number items) (number ∷ []) before text start s shows asks.id asks.armed asks.failures node node runs (asks.node ∙ runs) refl refl
+          (λ n. record { id = refl; kept = refl; records = refl }) d.0 d.1
 
   pub shown_goes : (pair : DiskPair D F) (host : Host) (before text : List ℕ) → ShownAs host before text → Goes told means show_act pair pair host host before text
   shown_goes pair host before text was start s shows = (whole, shows, was ∙ ap (λ (w : List ℕ). before ++ w) (by host.node s.stand shows.stand))
@@ -170,11 +170,11 @@ module _ {D F : Type 0} (told : Bool) (means : D → DiskMeaning) where
       by (Some node) runs =
           let d = applies.running node runs in
           let after = d.0 in
-          let q = apply_quiet node.state in
+          let q = apply_unchanged node.state in
           let opened : IsOpen told means pair node = subst (λ (o : Option RunningNode). NodeReady told means pair o) runs ready in
-          let opened_to : HasFile told means pair after.state.id (kept_of after.state) after.file =
-          subst (λ (m : Node). HasFile told means pair m.id (kept_of m) after.file) (sym d.2)
-          (subst (λ (i : List ℕ). HasFile told means pair i (kept_of (apply node.state).node) after.file) (sym q.id)
-          (subst (λ (k : Kept). HasFile told means pair node.state.id k after.file) (sym q.kept)
-          (subst (λ (f : Option WalFile). HasFile told means pair node.state.id (kept_of node.state) f) (sym d.3) opened))) in
+          let opened_to : HasFile told means pair after.state.id (persistent_of after.state) after.file =
+          subst (λ (m : Node). HasFile told means pair m.id (persistent_of m) after.file) (sym d.2)
+          (subst (λ (i : List ℕ). HasFile told means pair i (persistent_of (apply node.state).node) after.file) (sym q.id)
+          (subst (λ (k : Persistent). HasFile told means pair node.state.id k after.file) (sym q.kept)
+          (subst (λ (f : Option WalFile). HasFile told means pair node.state.id (persistent_of node.state) f) (sym d.3) opened))) in
           subst (λ (o : Option RunningNode). NodeReady told means pair o) (sym (ap (λ (h : Host). h.node) d.1)) opened_to

@@ -11,46 +11,46 @@ use Rattle.rq_wal.specs.Current.{IsCurrent, EachImage, EachSince}
 use Rattle.rq_wal.specs.Calls.{IsShort}
 use Rattle.rq_wal.specs.Later.{DeviceRose}
 use Rattle.rq_node.specs.declared.node.Node.{Node as Running}
-use Rattle.rq_node.specs.Node.{Kept, Durable, Vote, Splice, Boot, kept_of, kept_after}
+use Rattle.rq_node.specs.Node.{Persistent, StoredRecord, Vote, Splice, Boot, persistent_of, persistent_after}
 use Rattle.rq_node.specs.Files.{first_base, stored_of}
 use Rattle.rq_node.specs.Sound.{AreReadable}
 
 -- a file is read as what is kept, with the first of these things
-abbrev pub IsSomeOf : List ℕ → Kept → List Durable → Result Stored OpenError → Type 0
-IsSomeOf id kept items reading = (k : ℕ) × (reading ≡ Ok (stored_of id (kept_after kept (take k items))))
+abbrev pub IsSomeOf : List ℕ → Persistent → List StoredRecord → Result Stored OpenError → Type 0
+IsSomeOf id kept items reading = (k : ℕ) × (reading ≡ Ok (stored_of id (persistent_after kept (take k items))))
 
 -- the entries are read from the log again
-abbrev pub IsItemReadable : Durable → Type 0
+abbrev pub IsItemReadable : StoredRecord → Type 0
 IsItemReadable (Vote term vote) = ⊤
 IsItemReadable (Splice from entries) = AreReadable entries
 IsItemReadable (Boot boot) = ⊤
 
 -- what is kept, and what may be kept more, is read from the log again
-abbrev pub CanBeRead : Kept → List Durable → Type 0
+abbrev pub CanBeRead : Persistent → List StoredRecord → Type 0
 CanBeRead kept items = AreReadable kept.log × All IsItemReadable items
 
 module _ {D F : Type 0} (told : Bool) (means : D → DiskMeaning) where
   -- whatever a crash now leaves of the pair stands for what is kept, with the first of these things
-  abbrev pub Stands : DiskPair D F → List ℕ → Kept → List Durable → Type 0
+  abbrev pub Stands : DiskPair D F → List ℕ → Persistent → List StoredRecord → Type 0
   Stands pair id kept items = IsTrue told → EachImage means (first_base id) pair (IsSomeOf id kept items)
 
   -- the file is open, and it is the current one of the pair, which stands for what is kept
-  abbrev pub HasFile : DiskPair D F → List ℕ → Kept → Option WalFile → Type 0
+  abbrev pub HasFile : DiskPair D F → List ℕ → Persistent → Option WalFile → Type 0
   HasFile pair id kept None = ⊥
   HasFile pair id kept (Some wal) = IsTrue told → IsCurrent means (first_base id) pair wal (stored_of id kept)
 
   -- the running node's file is open, and has what the node keeps
   abbrev pub IsOpen : DiskPair D F → Running → Type 0
-  IsOpen pair node = HasFile pair node.state.id (kept_of node.state) node.file
+  IsOpen pair node = HasFile pair node.state.id (persistent_of node.state) node.file
 
   -- The pair is as it was; or whatever a crash at any moment since then left of it stands for what was kept, with the first of these things.
-  abbrev pub Moments : DiskPair D F → DiskPair D F → List ℕ → Kept → List Durable → Type 0
+  abbrev pub Moments : DiskPair D F → DiskPair D F → List ℕ → Persistent → List StoredRecord → Type 0
   Moments old new id kept items = (new ≡ old) ⊎ (IsTrue told → EachSince means (first_base id) old new (IsSomeOf id kept items))
 
   -- A write of these things was broken off: by a failing disk, or by an armed pair which passes too few calls for it; a count of the pair rose. Some of them stand.
-  pub record IsBroken (old new : DiskPair D F) (id : List ℕ) (kept : Kept) (items : List Durable) : Type 0 where
-    pub first : Durable
-    pub more : List Durable
+  pub record IsBroken (old new : DiskPair D F) (id : List ℕ) (kept : Persistent) (items : List StoredRecord) : Type 0 where
+    pub first : StoredRecord
+    pub more : List StoredRecord
     pub some : items ≡ first ∷ more
     pub stands : Stands new id kept items
     pub rose : PairRose means old new
@@ -58,6 +58,6 @@ module _ {D F : Type 0} (told : Bool) (means : D → DiskMeaning) where
     pub struck : arm_of new ≡ Struck → IsShort (4 * length items) (arm_of old)
 
   -- What an opening that failed has left: what stood there before; or it was settled, and some of the boot stands.
-  abbrev pub FailedOpening : DiskPair D F → List ℕ → Kept → List Durable → Type 0
+  abbrev pub FailedOpening : DiskPair D F → List ℕ → Persistent → List StoredRecord → Type 0
   FailedOpening pair id kept items =
-      Stands pair id kept items ⊎ ((k : ℕ) × Stands pair id (kept_after kept (take k items)) (Boot ((kept_after kept (take k items)).boot + 1) ∷ []))
+      Stands pair id kept items ⊎ ((k : ℕ) × Stands pair id (persistent_after kept (take k items)) (Boot ((persistent_after kept (take k items)).boot + 1) ∷ []))

@@ -6,7 +6,7 @@ use Rattle.rq_outside.specs.declared.pair.Arm.TheVariants.{Passes, Struck}
 use Rattle.rq_outside.specs.Disk.{DiskMeaning}
 use Rattle.rq_outside.specs.Pair.{arm_of}
 use Rattle.rq_node.specs.declared.node.Node.{Node as RunningNode}
-use Rattle.rq_node.specs.Standing.{IsOpen, Stands, CanBeRead}
+use Rattle.rq_node.specs.Recovery.{IsOpen, Stands, CanBeRead}
 use Rattle.rq_statement.specs.declared.item.Item.{Item}
 use Rattle.rq_script.specs.Cluster.{Stand, Running, Down, Armed, Server, Cluster, Course, Steps, MayReach, named, done, whole}
 use Rattle.rq_script.specs.Preparing.{statements, AreRead}
@@ -15,7 +15,7 @@ use Rattle.rq_cluster.specs.Acting.{Act, pending_at}
 use Rattle.rq_cluster.specs.declared.arming.Arming.{Arming}
 use Rattle.rq_cluster.specs.declared.host.Host.{Host}
 use Rattle.rq_cluster.specs.declared.world.World.{World}
-use Rattle.rq_cluster.specs.Standing.{IsNew, Rises, ServerStands}
+use Rattle.rq_cluster.specs.Recovery.{IsNew, Rises, ServerStands}
 
 abbrev pub armed_of : Option Arming → Option Armed
 armed_of = option_map (λ (a : Arming). record { calls = a.calls; pick = a.pick })

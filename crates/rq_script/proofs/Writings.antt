@@ -8,15 +8,15 @@ use Rattle.rq_request.specs.declared.say.Say.TheVariants.{Results}
 use Rattle.rq_request.specs.declared.say.Answer.{Answer}
 use Rattle.rq_engine.specs.Meaning.{answers}
 use Rattle.rq_json.specs.Body.{texts_of}
-use Rattle.rq_node.specs.Node.{Node, Kept, Durable, Turn, kept_after, quiet}
+use Rattle.rq_node.specs.Node.{Node, Persistent, StoredRecord, Turn, persistent_after, unchanged}
 use Rattle.rq_node.specs.Rules.{is_leader, led, elect, applied_entry, apply_next, apply_times, execute, query, apply, started}
-use Rattle.rq_node.specs.Files.{first_kept}
+use Rattle.rq_node.specs.Files.{first_persistent}
 use Rattle.rq_script.specs.ScriptLine.{Line, Skip, Cluster as ClusterLine, Elect, Apply, Execute, Query, Stop, StopWithin, Start, Show, line_of}
 use Rattle.rq_script.specs.ScriptText.{answers_text}
 use Rattle.rq_script.specs.Cluster.{Stand, Running, Down, Server, Cluster, Written, new_server, Fault, NoFault, Reading, Storing, Course, Fate, Done, Struck, Failed, fate, ended, happens, happens_at, opens, starts, stops, arms, shown, at_server, event_at, ask_at, founded, done, step, Steps}
 use Rattle.rq_script.specs.History.{Op, Write, Read, Note, Asked, Answered, at_place, said_by, said, applying, node_at, node_in, asking, applying_at, notes, notes_of}
 use Rattle.rq_script.specs.Promise.{op_of}
-use Rattle.rq_script.specs.Telling.{answers_in, IsState, is_up, is_down, is_shown, is_shown_down, Tells, SeesApplied, ReadsSeeApplied}
+use Rattle.rq_script.specs.Writing.{answers_in, IsState, is_up, is_down, is_shown, is_shown_down, Tells, SeesApplied, ReadsSeeApplied}
 use Rattle.rq_script.proofs.Histories.{places_ask_nothing, applying_asks_nothing, apply_stores}
 
 -- ---- the answers in notes
@@ -83,26 +83,26 @@ silent_tells Failed course s n turn asked none = inr (refl, is_down s.id)
 elect_is_silent : (n : Node) → (elect n).answers ≡ []
 elect_is_silent n = at (is_leader n.role || (n.term == 2 ^ 64 - 1))
   where
-    at : (b : Bool) → (if b then quiet n else led n).answers ≡ []
+    at : (b : Bool) → (if b then unchanged n else led n).answers ≡ []
     at true = refl
     at false = refl
 
 elect_tells : (course : Course) (s : Server) (stand : Stand) → Tells (happens_at course (record s { stand = stand }) elect []).1 []
-elect_tells course s (Running n) = silent_tells (fate course s.armed (elect n).durable) course (record s { stand = Running n }) n (elect n) [] (elect_is_silent n)
+elect_tells course s (Running n) = silent_tells (fate course s.armed (elect n).records) course (record s { stand = Running n }) n (elect n) [] (elect_is_silent n)
 elect_tells course s (Down kept rest) = tells_nothing
 
 apply_tells : (course : Course) (s : Server) (stand : Stand) → Tells (happens_at course (record s { stand = stand }) apply []).1 (applying_at (node_at stand))
 apply_tells course s (Down kept rest) = tells_nothing
 apply_tells course s (Running n) =
-    subst (λ (l : List Durable). Tells (ended (fate course s.armed l) course (record s { stand = Running n }) n (apply n) []).1 (applying (n.commit - n.applied) n))
-    (sym (apply_stores (n.commit - n.applied) (quiet n)))
-    (inl (ap answers_text (apply_answers (n.commit - n.applied) (quiet n))))
+    subst (λ (l : List StoredRecord). Tells (ended (fate course s.armed l) course (record s { stand = Running n }) n (apply n) []).1 (applying (n.commit - n.applied) n))
+    (sym (apply_stores (n.commit - n.applied) (unchanged n)))
+    (inl (ap answers_text (apply_answers (n.commit - n.applied) (unchanged n))))
 
 ask_tells : (course : Course) (s : Server) (stand : Stand) (number : ℕ) (op : Op) (rule : Node → Turn)
     → Tells (happens_at course (record s { stand = stand }) rule (number ∷ [])).1 (asking course (Some (record s { stand = stand })) number op rule)
 ask_tells course s (Running n) number op rule =
     tells_asked (happens course (record s { stand = Running n }) n (rule n) (number ∷ [])).1 number op (said course s.armed (rule n) n.applied)
-    (ended_tells (fate course s.armed (rule n).durable) course (record s { stand = Running n }) n (rule n) (number ∷ []) n.applied)
+    (ended_tells (fate course s.armed (rule n).records) course (record s { stand = Running n }) n (rule n) (number ∷ []) n.applied)
 ask_tells course s (Down kept rest) number op rule = tells_asked [] number op [] tells_nothing
 
 -- ---- at the server that is there
@@ -138,8 +138,8 @@ asked_tells c course id body rule items op = by (texts_of body)
     by (Some texts) = server_tells (record c { asks = c.asks + 1 }) id (λ s. Some (happens_at course s (rule (c.asks + 1) items) ((c.asks + 1) ∷ [])))
         (λ o. asking course o (c.asks + 1) op (rule (c.asks + 1) items)) (λ s stand. ask_tells course s stand (c.asks + 1) op (rule (c.asks + 1) items))
 
-opens_tells : (course : Course) (s : Server) (kept : Kept) (rest : List Durable) (fault : Fault) → Tells (opens (record course { fault = fault }) s kept rest).1 []
-opens_tells course s kept rest NoFault = tells_state _ (is_up (started s.id (kept_after kept (take course.stands rest))).node)
+opens_tells : (course : Course) (s : Server) (kept : Persistent) (rest : List StoredRecord) (fault : Fault) → Tells (opens (record course { fault = fault }) s kept rest).1 []
+opens_tells course s kept rest NoFault = tells_state _ (is_up (started s.id (persistent_after kept (take course.stands rest))).node)
 opens_tells course s kept rest Reading = tells_state _ (is_down s.id)
 opens_tells course s kept rest Storing = tells_state _ (is_down s.id)
 
@@ -147,7 +147,7 @@ found_tells : (c : Cluster) (course : Course) (id : List ℕ) → MayTell [] (fo
 found_tells c course id = at c.server
   where
     at : (o : Option Server) → MayTell [] (founded course (record c { server = o }) id)
-    at None = opens_tells course (new_server id) first_kept [] course.fault
+    at None = opens_tells course (new_server id) first_persistent [] course.fault
     at (Some s) = tt
 
 start_tells : (course : Course) (s : Server) (stand : Stand) → ActTells [] (starts course (record s { stand = stand }))
@@ -238,7 +238,7 @@ write_sees c course (Some s) number list rule k asked results place items is op 
     at : (stand : Stand) → op_of (asking course (Some (record s { stand = stand })) number (Write list) rule) asked ≡ Some (Read items) → SeesApplied c items results place
     at (Down kept rest) asks = absurd (write_reads_nothing number asked list items [] refl asks)
     at (Running n) asks =
-        absurd (write_reads_nothing number asked list items (said course s.armed (rule n) n.applied) (said_asks_nothing (fate course s.armed (rule n).durable) (rule n) n.applied asked) asks)
+        absurd (write_reads_nothing number asked list items (said course s.armed (rule n) n.applied) (said_asks_nothing (fate course s.armed (rule n).records) (rule n) n.applied asked) asks)
 
 apply_sees : (c : Cluster) (o : Option Node) → ReadsSeeApplied c (applying_at o)
 apply_sees c None k number results place items is op = absurd (cc)

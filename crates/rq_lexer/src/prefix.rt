@@ -1,4 +1,4 @@
-//! The token in front of a text.
+//! The token before a text.
 ghost use Rattle.std.specs.Prelude.{◌≡◌, ◌+◌, ◌*◌, ◌<◌, ◌≤◌, ◌∷◌, [], length, true, false, IsTrue, IfOk, Some, None, if◌then◌else◌};
 ghost use Rattle.std.specs.List.{list_all};
 ghost use Rattle.std.specs.Char.{is_ascii_hexdigit, digit_value};
@@ -257,11 +257,11 @@ fn is_sigil(byte: u8) -> bool
     byte == b':' || byte == b'@' || byte == b'$'
 }
 
-/// The token in front of a text that isn't empty and has neither blank nor comment in front, and how long it is.
-#[tactic(auto, unfolding(crate::specs::Lex::front))]
-pub fn front(alloc: Global, text: &[u8]) -> Result<(Token, usize), NoMemory>
+/// The token before a text that isn't empty and has neither blank nor comment before it, and how long it is.
+#[tactic(auto, unfolding(crate::specs::Lex::prefix))]
+pub fn prefix(alloc: Global, text: &[u8]) -> Result<(Token, usize), NoMemory>
     requires { 0 < length text.now }
-    ensures { IfOk result (λ f. f ≡ spec.front text.now) }
+    ensures { IfOk result (λ f. f ≡ spec.prefix text.now) }
 {
     let first = byte_at(text, 0);
     let second = byte_at(text, 1);

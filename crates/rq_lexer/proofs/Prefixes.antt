@@ -1,4 +1,4 @@
--- Each token in front of a text is some of its bytes, and is as `IsCut` says.
+-- Each token before a text is some of its bytes, and is as `IsCut` says.
 use Rattle.std.proofs.Common.{Bool, true, false, ◌≡◌, ℕ, suc, ◌+◌, ◌-◌, ◌*◌, ◌%◌, ◌<◌, ◌≤◌, ◌^◌, ◌&&◌, not, cond, nat_lt, nat_le, [], ◌∷◌, take, drop, length, refl, ap, subst, ◌∙◌, arith, Option, Some, None, length-drop}
 use Rattle.std.specs.Prelude.{slice_index, ◌==◌}
 use Rattle.std.specs.Char.{is_ascii_digit, is_ascii_hexdigit, digit_value}
@@ -11,11 +11,11 @@ use Rattle.rq_grammar.specs.declared.token.Token.{Token}
 use Rattle.rq_grammar.specs.declared.token.Token.TheVariants as t
 use Rattle.rq_grammar.specs.Words.{Text}
 use Rattle.rq_grammar.specs.Spelling.{begins_word, is_in_word, is_bare}
-use Rattle.rq_lexer.specs.Lex.{Front, Marks, is_in_numeral, is_integer, number_of, word, parameter, numeral, closing, undoubled, up_to_closing, quoted, or_other, string, quoted_name, is_hex, bytes_of_hex, is_no_quote, blob, mark_among, stands_at, long_marks, short_marks, char_len, or_char, or_short, mark, is_x, is_sigil, front}
+use Rattle.rq_lexer.specs.Lex.{Front, Marks, is_in_numeral, is_integer, number_of, word, parameter, numeral, closing, undoubled, up_to_closing, quoted, or_other, string, quoted_name, is_hex, bytes_of_hex, is_no_quote, blob, mark_among, stands_at, long_marks, short_marks, char_len, or_char, or_short, mark, is_x, is_sigil, prefix}
 use Rattle.rq_lexer.specs.Facts.{IsCut}
 use Rattle.rq_lexer.proofs.Plain.{both, left, right, run_passes}
 
-pub record IsFront (z : Text) (f : Front) : Type 0 where
+pub record IsPrefixOf (z : Text) (f : Front) : Type 0 where
   pub some : 1 ≤ f.1
   pub within : f.1 ≤ length z
   pub cut : IsCut f.0
@@ -41,14 +41,14 @@ bare_run : (b : ℕ) (z : Text) → begins_word b ≡ true → is_bare (take (pr
 unfolding is_bare
 bare_run b z h = ap (λ n. is_bare (take n (b ∷ z))) (run_more is_in_word b z (in_word b h)) ∙ both (begins_word b) (list_all is_in_word (take (prefix_len is_in_word z) z)) h (run_passes is_in_word z)
 
-word_is : (z : Text) → 1 ≤ length z → begins_word (slice_index z 0) ≡ true → IsFront z (word z)
+word_is : (z : Text) → 1 ≤ length z → begins_word (slice_index z 0) ≡ true → IsPrefixOf z (word z)
 unfolding word
 word_is [] some h = absurd (omega arith)
 word_is (b ∷ z) some h =
     let more = run_more is_in_word b z (in_word b h) in
     record { some = omega arith; within = prefix_len-le-length is_in_word (b ∷ z); cut = (bare_run b z h, refl) }
 
-parameter_is : (z : Text) → 1 ≤ length z → begins_word (slice_index z 1) ≡ true → IsFront z (parameter z)
+parameter_is : (z : Text) → 1 ≤ length z → begins_word (slice_index z 1) ≡ true → IsPrefixOf z (parameter z)
 unfolding parameter
 parameter_is [] some h = absurd (omega arith)
 parameter_is (a ∷ []) some h = absurd (cc)
@@ -63,7 +63,7 @@ integer_most : (run : Text) → is_integer run ≡ true → number_of run ≤ 2 
 unfolding is_integer
 integer_most run h = at_most (number_of run) (right (list_all is_ascii_digit run) (nat_le (number_of run) (2 ^ 63)) h)
 
-numeral_is : (z : Text) → 1 ≤ length z → is_ascii_digit (slice_index z 0) ≡ true → IsFront z (numeral z)
+numeral_is : (z : Text) → 1 ≤ length z → is_ascii_digit (slice_index z 0) ≡ true → IsPrefixOf z (numeral z)
 unfolding numeral
 numeral_is [] some h = absurd (omega arith)
 numeral_is (b ∷ z) some h =
@@ -114,14 +114,14 @@ or_other_is : (make : Text → Token) (o : Option Text) → ((s : Text) → o �
 or_other_is make None h = tt
 or_other_is make (Some s) h = h s refl
 
-string_is : (z : Text) → 1 ≤ length z → IsFront z (string z)
+string_is : (z : Text) → 1 ≤ length z → IsPrefixOf z (string z)
 unfolding string
 string_is [] some = absurd (omega arith)
 string_is (b ∷ z) some =
     let q = quoted_is 39 z in
     record { some = omega arith; within = omega (arith, q.within); cut = or_other_is t.String (quoted 39 z).0 q.text }
 
-quoted_name_is : (z : Text) → 1 ≤ length z → IsFront z (quoted_name z)
+quoted_name_is : (z : Text) → 1 ≤ length z → IsPrefixOf z (quoted_name z)
 unfolding quoted_name
 quoted_name_is [] some = absurd (omega arith)
 quoted_name_is (b ∷ z) some =
@@ -150,12 +150,12 @@ hex_bytes : (z : Text) → is_hex z ≡ true → list_all (λ b. nat_lt b 256) (
 unfolding is_hex
 hex_bytes z h = hex_bytes_below z (left (list_all is_ascii_hexdigit z) (length z % 2 == 0) h)
 
-blob_is : (z : Text) → 1 ≤ length z → IsFront z (blob z)
+blob_is : (z : Text) → 1 ≤ length z → IsPrefixOf z (blob z)
 unfolding blob
 blob_is z some =
     let inside = drop 2 z in
     let n = prefix_len is_no_quote inside in
-    by_test (IsFront z) (nat_lt n (length inside)) (cond (is_hex (take n inside)) (t.Blob (bytes_of_hex (take n inside))) t.Other, n + 3) (t.Other, length z)
+    by_test (IsPrefixOf z) (nat_lt n (length inside)) (cond (is_hex (take n inside)) (t.Blob (bytes_of_hex (take n inside))) t.Other, n + 3) (t.Other, length z)
     (λ h. record {
       some = omega arith;
       within = long n (length inside) (length z) h (length-drop 2 z);
@@ -232,30 +232,30 @@ short_are =
       ),
     )
 
-mark_is : (z : Text) → 1 ≤ length z → IsFront z (mark z)
+mark_is : (z : Text) → 1 ≤ length z → IsPrefixOf z (mark z)
 unfolding mark
 mark_is z some = long (mark_among long_marks z) refl
   where
-    char : IsFront z (t.Other, char_len z)
+    char : IsPrefixOf z (t.Other, char_len z)
     char = let is = char_len_is z some in record { some = is.0; within = is.1; cut = tt }
 
-    short : (o : Option Token) → mark_among short_marks z ≡ o → IsFront z (or_char z o)
+    short : (o : Option Token) → mark_among short_marks z ≡ o → IsPrefixOf z (or_char z o)
     short None h = char
     short (Some u) h = record { some = omega arith; within = some; cut = (mark_is_one 0 short_marks z u short_are h).0 }
 
-    long : (o : Option Token) → mark_among long_marks z ≡ o → IsFront z (or_short z o)
+    long : (o : Option Token) → mark_among long_marks z ≡ o → IsPrefixOf z (or_short z o)
     long None h = short (mark_among short_marks z) refl
     long (Some u) h = let is = mark_is_one 2 long_marks z u long_are h in record { some = omega arith; within = is.1; cut = is.0 }
 
-pub front_is : (z : Text) → 1 ≤ length z → IsFront z (front z)
-unfolding front
-front_is z some =
+pub prefix_is : (z : Text) → 1 ≤ length z → IsPrefixOf z (prefix z)
+unfolding prefix
+prefix_is z some =
     let b = slice_index z 0 in
     let c = slice_index z 1 in
-    by_test (IsFront z) (is_x b && c == 39) (blob z) _ (λ h. blob_is z some)
-    (λ _. by_test (IsFront z) (begins_word b) (word z) _ (λ h. word_is z some h)
-    (λ _. by_test (IsFront z) (is_ascii_digit b) (numeral z) _ (λ h. numeral_is z some h)
-    (λ _. by_test (IsFront z) (b == 39) (string z) _ (λ h. string_is z some)
-    (λ _. by_test (IsFront z) (b == 34) (quoted_name z) _ (λ h. quoted_name_is z some)
-    (λ _. by_test (IsFront z) (is_sigil b && begins_word c) (parameter z) (mark z) (λ h. parameter_is z some (right (is_sigil b) (begins_word c) h))
+    by_test (IsPrefixOf z) (is_x b && c == 39) (blob z) _ (λ h. blob_is z some)
+    (λ _. by_test (IsPrefixOf z) (begins_word b) (word z) _ (λ h. word_is z some h)
+    (λ _. by_test (IsPrefixOf z) (is_ascii_digit b) (numeral z) _ (λ h. numeral_is z some h)
+    (λ _. by_test (IsPrefixOf z) (b == 39) (string z) _ (λ h. string_is z some)
+    (λ _. by_test (IsPrefixOf z) (b == 34) (quoted_name z) _ (λ h. quoted_name_is z some)
+    (λ _. by_test (IsPrefixOf z) (is_sigil b && begins_word c) (parameter z) (mark z) (λ h. parameter_is z some (right (is_sigil b) (begins_word c) h))
     (λ _. mark_is z some))))))

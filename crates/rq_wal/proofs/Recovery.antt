@@ -17,12 +17,12 @@ use Rattle.rq_wal.specs.Gate.{EndsIn}
 use Rattle.rq_wal.specs.Log.{IsLog}
 use Rattle.rq_wal.specs.Reading.{header_fault, unless_, then_, stored_of, log_at, file_gives, by_generations, pair_gives}
 use Rattle.rq_wal.specs.Replace.{generation_of, IsBelow, IsOldOrNew}
-use Rattle.rq_wal.specs.Spelling.{base_bytes, body_bytes, front_bytes, file_bytes}
+use Rattle.rq_wal.specs.Spelling.{base_bytes, body_bytes, prefix_bytes, file_bytes}
 use Rattle.rq_wal.specs.Stored.{started}
 use Rattle.rq_wal.specs.WalFile.{wal_file, wal_end, wal_generation}
-use Rattle.rq_wal.proofs.FilesRead.{written, front_generation, header_right_of}
+use Rattle.rq_wal.proofs.FilesRead.{written, prefix_generation, header_right_of}
 use Rattle.rq_wal.proofs.Moments.{OnlyNow, then}
-use Rattle.rq_wal.proofs.Quiet.{quiet}
+use Rattle.rq_wal.proofs.Unchanged.{unchanged}
 
 -- ---- the first writing of file one
 
@@ -47,7 +47,7 @@ pub begun_moments : (first : Base) (old ready mid new : DiskMeaning) (rest : Lis
     → LeavesOnly mid new (IsOldOrNew 0 (1 ∷ rest)) → 1 ∷ rest ≡ file_bytes 1 first [] → length (base_bytes first) < 2 ^ 64 → LeavesOnly old new (IsBegun first)
 begun_moments first old ready mid new rest closed only now same time below opens is fits =
     then old mid new (IsBegun first) (IsOldOrNew 0 (1 ∷ rest)) (IsBegun first)
-    (then old ready mid old.images (IsBelow 0) (IsBegun first) (quiet old ready now time same.no_more) below (λ c image. inl (ap generation_of (only c image) ∙ closed)) (begun_below first))
+    (then old ready mid old.images (IsBelow 0) (IsBegun first) (unchanged old ready now time same.no_more) below (λ c image. inl (ap generation_of (only c image) ∙ closed)) (begun_below first))
     opens (λ c p. p) (λ c. begun_new first (1 ∷ rest) c is fits)
 
 -- ---- the current one of two files
@@ -81,7 +81,7 @@ module _ (first : Base) (generation : ℕ) (stored : Stored) (done file : List �
   ends_gives number = ap (file_gives first number) ends.split ∙ written first generation number ends.gate stored done ends.rest log ends.closed
 
   pub ends_generation : generation_of file ≡ Some generation
-  ends_generation = ap generation_of (ends.split ∙ ap (λ (l : List ℕ). l ++ ends.gate ∷ ends.rest) log.is) ∙ front_generation generation first log.frames (ends.gate ∷ ends.rest) log.small
+  ends_generation = ap generation_of (ends.split ∙ ap (λ (l : List ℕ). l ++ ends.gate ∷ ends.rest) log.is) ∙ prefix_generation generation first log.frames (ends.gate ∷ ends.rest) log.small
 
   pub ends_right : (number : ℕ) → header_fault number file ≡ None
   ends_right number = ap (header_fault number) (ends.split ∙ ap (λ (l : List ℕ). l ++ ends.gate ∷ ends.rest) log.is) ∙ header_right_of number generation first log.frames ends.gate ends.rest log.small
@@ -144,10 +144,10 @@ closed_gives first one two none none' = λ i. by_generations first (none i) (non
 
 -- the new file one
 module _ (first : Base) (fits : length (base_bytes first) < 2 ^ 64) where
-  pub new_log : IsLog first 1 (started first) (front_bytes 1 first [])
+  pub new_log : IsLog first 1 (started first) (prefix_bytes 1 first [])
   new_log = record { frames = []; allowed = tt; folds = refl; small = omega arith; fits = fits; is = refl }
 
-  new_ends : EndsIn (front_bytes 1 first []) (file_bytes 1 first [])
+  new_ends : EndsIn (prefix_bytes 1 first []) (file_bytes 1 first [])
   new_ends = record { gate = 0; rest = []; closed = omega arith; split = refl }
 
   -- beside a file two, it gives what stood there before, or the first base
@@ -161,13 +161,13 @@ module _ (first : Base) (fits : length (base_bytes first) < 2 ^ 64) where
     beside one two none gives = with_two (generation_of two) refl
       where
         current : generation_of (file_bytes 1 first []) ≡ Some 1
-        current = ends_generation first 1 (started first) (front_bytes 1 first []) (file_bytes 1 first []) new_log new_ends
+        current = ends_generation first 1 (started first) (prefix_bytes 1 first []) (file_bytes 1 first []) new_log new_ends
 
         right : header_fault 1 (file_bytes 1 first []) ≡ None
-        right = ends_right first 1 (started first) (front_bytes 1 first []) (file_bytes 1 first []) new_log new_ends 1
+        right = ends_right first 1 (started first) (prefix_bytes 1 first []) (file_bytes 1 first []) new_log new_ends 1
 
         gives_one : file_gives first 1 (file_bytes 1 first []) ≡ Ok (started first)
-        gives_one = ends_gives first 1 (started first) (front_bytes 1 first []) (file_bytes 1 first []) new_log new_ends 1
+        gives_one = ends_gives first 1 (started first) (prefix_bytes 1 first []) (file_bytes 1 first []) new_log new_ends 1
 
         either : (b : Bool) → P (file_gives first 2 two) → P (cond b (unless_ (header_fault 1 (file_bytes 1 first [])) (file_gives first 2 two)) (then_ (file_gives first 1 (file_bytes 1 first [])) (header_fault 2 two)))
         either true p = subst (λ (fault : Option OpenError). P (unless_ fault (file_gives first 2 two))) (sym right) p

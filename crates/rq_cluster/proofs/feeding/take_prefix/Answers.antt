@@ -2,11 +2,11 @@ use Rattle.std.proofs.Common.{◌<◌, ◌+◌, ◌++◌, ◌∷◌, [], List, �
 use Rattle.rq_script.specs.Lines.{lines_of}
 use Rattle.rq_script.specs.Runs.{StopsAt}
 use Rattle.rq_cluster.specs.declared.feeding.Stop.TheVariants.{Outside as StopOutside}
-use Rattle.rq_cluster.specs.Play.{BrokenOff}
+use Rattle.rq_cluster.specs.Outcome.{BrokenOff}
 use Rattle.rq_cluster.specs.Feed.{StopsKept, GoesOn, Stopped}
-use Rattle.rq_cluster.specs.Standing.{Holds}
-use Rattle.rq_cluster.proofs.Pieces.{Outside, Broken, goes_held, goes_after, stopped_after, unwritten, of_other, front_rest, line_rest, line_front}
-use Rattle.rq_cluster.proofs.feeding.take_front.Goals as goal
+use Rattle.rq_cluster.specs.Recovery.{Holds}
+use Rattle.rq_cluster.proofs.Pieces.{Outside, Broken, goes_held, goes_after, stopped_after, unwritten, of_other, prefix_rest, line_rest, line_prefix}
+use Rattle.rq_cluster.proofs.feeding.take_prefix.Goals as goal
 
 pub returns-in-Err-clause-outside : goal.returns-in-Err-clause-outside
 returns-in-Err-clause-outside g c is rest start read text s =
@@ -16,8 +16,8 @@ returns-in-Err-clause-outside g c is rest start read text s =
     let at = c.hold.new.progress.number in
     unwritten g.K.Sink.told t0 t0 (λ (t : List ℕ). StopsKept (Holds g.D.Disk.told g.D.Disk.means start c.args.disks.now.items) at (lines_of (read ++ (piece ++ rest))) t) text (λ t. refl) (
       s.0,
-      subst (λ (l : List ℕ). StopsAt (lines_of (read ++ l)) at text s.0) (front_rest n piece rest) (c.in-Err.ensures.outside (of_other c.in-Err.stop StopOutside is) (drop n piece ++ rest) read text s.0 s.1),
-      c.shown_clusters_stand.ensures start c.args.disks.now.items c.args.progress.now.world s.0 s.2,
+      subst (λ (l : List ℕ). StopsAt (lines_of (read ++ l)) at text s.0) (prefix_rest n piece rest) (c.in-Err.ensures.outside (of_other c.in-Err.stop StopOutside is) (drop n piece ++ rest) read text s.0 s.1),
+      c.refined_clusters_stand.ensures start c.args.disks.now.items c.args.progress.now.world s.0 s.2,
     )
 
 pub returns-in-Err-clause-part : goal.returns-in-Err-clause-part
@@ -28,8 +28,8 @@ returns-in-Err-clause-part g c rest start read text s =
     let K = Holds g.D.Disk.told g.D.Disk.means start c.args.disks.now.items in
     let b = c.in-Err.ensures.part (drop n piece ++ rest) read text s.0 s.1 in
     unwritten g.K.Sink.told t0 t0 (λ (t : List ℕ). BrokenOff (lines_of (read ++ (piece ++ rest))) K t) text (λ t. refl)
-    (subst (λ (l : List ℕ). BrokenOff (lines_of (read ++ l)) K text) (front_rest n piece rest)
-    (BrokenOff.before b.0 b.1 text s.0 b.2 b.3 (c.shown_clusters_stand.ensures start c.args.disks.now.items c.args.progress.now.world s.0 s.2)))
+    (subst (λ (l : List ℕ). BrokenOff (lines_of (read ++ l)) K text) (prefix_rest n piece rest)
+    (BrokenOff.before b.0 b.1 text s.0 b.2 b.3 (c.refined_clusters_stand.ensures start c.args.disks.now.items c.args.progress.now.world s.0 s.2)))
 
 pub returns-then-count-piece-clause-ok : goal.returns-then-count-piece-clause-ok
 returns-then-count-piece-clause-ok g c =
@@ -46,7 +46,7 @@ returns-in-Ok-end_line-clause-ok g c =
     let from = c.args.progress.now in
     let held = c.hold.new.progress in
     let lt : n < length piece = omega (arith, c.line_end-count.ensures.within, c.if-count-piece.false) in
-    subst (λ (l : List ℕ). GoesOn g.D.Disk.told g.D.Disk.means p0 p1 g.K.Sink.told t0 t1 from c.end_line.new.progress l) (line_front n piece lt (c.line_end-count.ensures.found lt))
+    subst (λ (l : List ℕ). GoesOn g.D.Disk.told g.D.Disk.means p0 p1 g.K.Sink.told t0 t1 from c.end_line.new.progress l) (line_prefix n piece lt (c.line_end-count.ensures.found lt))
     (goes_after g.D.Disk.told g.D.Disk.means p0 p0 p1 g.K.Sink.told t0 t0 t1 from held c.end_line.new.progress (take n piece) (10 ∷ [])
     (goes_held g.D.Disk.told g.D.Disk.means p0 g.K.Sink.told t0 from held (take n piece) c.in-Ok.ensures.world c.in-Ok.ensures.ok) c.in-Ok-end_line.ensures.ok)
 

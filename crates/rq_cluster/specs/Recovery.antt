@@ -6,8 +6,8 @@ use Rattle.rq_outside.specs.declared.pair.FileNo.TheVariants.{One, Two}
 use Rattle.rq_outside.specs.Disk.{DiskMeaning}
 use Rattle.rq_outside.specs.Pair.{arm_of, disk_at}
 use Rattle.rq_wal.specs.Current.{AreClosed}
-use Rattle.rq_node.specs.Node.{kept_of}
-use Rattle.rq_node.specs.Standing.{Stands}
+use Rattle.rq_node.specs.Node.{persistent_of}
+use Rattle.rq_node.specs.Recovery.{Stands}
 use Rattle.rq_script.specs.Cluster.{Stand, Running, Down, Server, Cluster}
 
 module _ {D F : Type 0} (told : Bool) (means : D → DiskMeaning) where
@@ -26,7 +26,7 @@ module _ {D F : Type 0} (told : Bool) (means : D → DiskMeaning) where
   -- Each image of the pair stands for what the server keeps. Where a failing disk broke a write off, and the files weren't
   -- opened since, how much of it stands isn't settled.
   abbrev pub StandsAs : DiskPair D F → List ℕ → Stand → Type 0
-  StandsAs pair id (Running n) = Stands told means pair id (kept_of n) []
+  StandsAs pair id (Running n) = Stands told means pair id (persistent_of n) []
   StandsAs pair id (Down kept rest) = Stands told means pair id kept rest
 
   -- the pair of the one server: new until the server is there

@@ -1,4 +1,4 @@
--- Fronts of lists, and what a log makes of a database.
+-- Prefixes of lists, and what a log makes of a database.
 use Rattle.std.proofs.Common.{◌≡◌, ◌<◌, ◌≤◌, ℕ, zero, suc, ◌+◌, List, [], ◌∷◌, ◌++◌, length, take, drop, slice_get, nat_lt, Bool, true, false, if◌then◌else◌, Option, Some, None, refl, sym, ◌∙◌, ap, subst, append_assoc, arith}
 use Rattle.std.proofs.lemmas.List.{append-nil, take-append-drop, take-append-le, length-append, length-take-le}
 use Rattle.rq_engine.specs.Database.{Database}
@@ -19,13 +19,13 @@ module _ {T : Type 0} where
   pub begins_take : (n : ℕ) (xs : List T) → Begins (take n xs) xs
   begins_take n xs = (drop n xs, take-append-drop n xs)
 
-  get_front : (a r : List T) (k : ℕ) → k < length a → slice_get (a ++ r) k ≡ slice_get a k
-  get_front [] r k lt = absurd (omega (arith, lt))
-  get_front (x ∷ a) r zero lt = refl
-  get_front (x ∷ a) r (suc k) lt = get_front a r k (omega (arith, lt))
+  get_prefix : (a r : List T) (k : ℕ) → k < length a → slice_get (a ++ r) k ≡ slice_get a k
+  get_prefix [] r k lt = absurd (omega (arith, lt))
+  get_prefix (x ∷ a) r zero lt = refl
+  get_prefix (x ∷ a) r (suc k) lt = get_prefix a r k (omega (arith, lt))
 
   pub begins_get : (a b : List T) (k : ℕ) → Begins a b → k < length a → slice_get b k ≡ slice_get a k
-  begins_get a b k (r, is) lt = ap (λ (l : List T). slice_get l k) (sym is) ∙ get_front a r k lt
+  begins_get a b k (r, is) lt = ap (λ (l : List T). slice_get l k) (sym is) ∙ get_prefix a r k lt
 
   pub begins_take_same : (a b : List T) (n : ℕ) → Begins a b → n ≤ length a → take n b ≡ take n a
   begins_take_same a b n (r, is) le = ap (take n) (sym is) ∙ take-append-le n a r le
@@ -35,7 +35,7 @@ module _ {T : Type 0} where
   begins_in (x ∷ a) r zero le = absurd (omega (arith, le))
   begins_in (x ∷ a) r (suc n) le = let rest = begins_in a r n (omega (arith, le)) in (rest.0, ap (λ (l : List T). x ∷ l) rest.1)
 
-  -- of two fronts of a list the longer begins with the shorter
+  -- of two prefixes of a list the longer begins with the shorter
   pub begins_both : (a b : List T) (n : ℕ) → Begins a b → length a ≤ n → Begins a (take n b)
   begins_both a b n (r, is) le = subst (λ (l : List T). Begins a (take n l)) is (begins_in a r n le)
 
@@ -60,34 +60,34 @@ module _ {T : Type 0} where
       or_empty (Some z) = z ∷ []
   take_next (y ∷ a) (suc k) x is = let next : suc k + 1 ≡ suc (k + 1) = omega arith in ap (λ (n : ℕ). take n (y ∷ a)) next ∙ ap (λ (l : List T). y ∷ l) (take_next a k x is)
 
--- the longer of a front of the log and its first n entries
-pub record Longest (front : List LogEntry) (n : ℕ) (log : List LogEntry) : Type 0 where
-  pub more : Begins front (longer front (take n log))
-  pub inside : Begins (longer front (take n log)) log
-  pub covers : n ≤ length (longer front (take n log))
+-- the longer of a prefix of the log and its first n entries
+pub record Longest (prefix : List LogEntry) (n : ℕ) (log : List LogEntry) : Type 0 where
+  pub more : Begins prefix (longer prefix (take n log))
+  pub inside : Begins (longer prefix (take n log)) log
+  pub covers : n ≤ length (longer prefix (take n log))
 
-pub longest : (front : List LogEntry) (n : ℕ) (log : List LogEntry) → Begins front log → n ≤ length log → Longest front n log
-longest front n log begins le = at (nat_lt (length front) (length (take n log))) refl
+pub longest : (prefix : List LogEntry) (n : ℕ) (log : List LogEntry) → Begins prefix log → n ≤ length log → Longest prefix n log
+longest prefix n log begins le = at (nat_lt (length prefix) (length (take n log))) refl
   where
     count : length (take n log) ≡ n
     count = length-take-le n log le
 
-    of_longer : (l : List LogEntry) → longer front (take n log) ≡ l → Begins front l → Begins l log → n ≤ length l → Longest front n log
+    of_longer : (l : List LogEntry) → longer prefix (take n log) ≡ l → Begins prefix l → Begins l log → n ≤ length l → Longest prefix n log
     of_longer l is more inside covers = record {
-      more = subst (Begins front) (sym is) more;
+      more = subst (Begins prefix) (sym is) more;
       inside = subst (λ (x : List LogEntry). Begins x log) (sym is) inside;
       covers = subst (λ (x : List LogEntry). n ≤ length x) (sym is) covers;
     }
 
-    at : (t : Bool) → nat_lt (length front) (length (take n log)) ≡ t → Longest front n log
+    at : (t : Bool) → nat_lt (length prefix) (length (take n log)) ≡ t → Longest prefix n log
     at true lt =
-        let less : length front < length (take n log) = grind arith in
-        of_longer (take n log) (ap (λ (t : Bool). if t then take n log else front) lt)
-        (begins_both front log n begins (omega (arith, less, count))) (begins_take n log) (omega (arith, count))
+        let less : length prefix < length (take n log) = grind arith in
+        of_longer (take n log) (ap (λ (t : Bool). if t then take n log else prefix) lt)
+        (begins_both prefix log n begins (omega (arith, less, count))) (begins_take n log) (omega (arith, count))
     at false ge =
-        let most : (length front < length (take n log) → ⊥) = λ lt. (let e : nat_lt (length front) (length (take n log)) ≡ true = grind arith in absurd (cc)) in
-        of_longer front (ap (λ (t : Bool). if t then take n log else front) ge)
-        (begins_same front) begins (omega (arith, most, count))
+        let most : (length prefix < length (take n log) → ⊥) = λ lt. (let e : nat_lt (length prefix) (length (take n log)) ≡ true = grind arith in absurd (cc)) in
+        of_longer prefix (ap (λ (t : Bool). if t then take n log else prefix) ge)
+        (begins_same prefix) begins (omega (arith, most, count))
 
 pub replayed_on : (database : Database) (a b : List LogEntry) → replayed database (a ++ b) ≡ replayed (replayed database a) b
 replayed_on database [] b = refl

@@ -2,15 +2,15 @@
 ghost use Rattle.std.specs.Prelude.{List};
 ghost use Rattle.rq_outside.specs.declared.pair.DiskPair.{DiskPair as ThePair};
 ghost use Rattle.rq_script.specs.Cluster.{Cluster};
-ghost use Rattle.rq_cluster.specs.Shown.{Shows};
-ghost use Rattle.rq_cluster.specs.Standing.{Holds};
+ghost use Rattle.rq_cluster.specs.Refines.{Shows};
+ghost use Rattle.rq_cluster.specs.Recovery.{Holds};
 ghost use Rattle.rq_cluster.specs.declared.world.World.{World};
 
 use rq_outside::CrashDisk;
 use rq_wal::current_logs_stand;
 
 /// The pairs that show a cluster stand for it, whatever a crash leaves.
-pub fn shown_clusters_stand<D: CrashDisk>()
+pub fn refined_clusters_stand<D: CrashDisk>()
     ensures { (start pairs : List (ThePair D D.Fault)) (world : World) (c : Cluster) → Shows D.told D.means start pairs world c → Holds D.told D.means start pairs c }
 {
     current_logs_stand::<D>();
