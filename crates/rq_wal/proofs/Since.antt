@@ -8,7 +8,7 @@ use Rattle.rq_wal.specs.declared.base.Base.{Base}
 use Rattle.rq_wal.specs.declared.base.Stored.{Stored}
 use Rattle.rq_wal.specs.declared.error.OpenError.{OpenError}
 use Rattle.rq_wal.specs.declared.file.WalFile.{WalFile}
-use Rattle.rq_wal.specs.declared.frame.Frame.{Frame}
+use Rattle.rq_wire.specs.declared.frame.Frame.{Frame}
 use Rattle.rq_wal.specs.Current.{IsCurrent, IsSome, OnlyRoom, EachSinceGives, EachSinceGivesSome}
 use Rattle.rq_wal.specs.Gate.{EndsIn, HasSomeOf}
 use Rattle.rq_wal.specs.Rules.{AreAllowed}

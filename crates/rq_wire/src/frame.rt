@@ -3,7 +3,6 @@ use crate::entry::Entry;
 use rq_values::{Id, Seq};
 
 /// One change of what a log file stands for.
-#[derive(Drop)]
 pub enum Frame {
     /// The term and the vote.
     Vote { term: u64, vote: Option<Id> },
