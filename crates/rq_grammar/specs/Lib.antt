@@ -1,14 +1,7 @@
 pub mod Words
 pub mod Grammar
 pub mod Statements
-pub mod Stack
-pub mod Places
-pub mod Machine
 pub mod Depth
-pub mod Load
-pub mod Popping
-pub mod Weight
 pub mod Spelling
 pub mod Print
 pub mod Proper
-pub mod Examples

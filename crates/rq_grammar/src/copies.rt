@@ -1,13 +1,34 @@
 //! Copies of expressions and statements.
 
-ghost use Rattle.std.specs.Prelude.{◌≡◌, ◌++◌, ◌∷◌, [], IfOk};
+ghost use Rattle.std.specs.Prelude.{◌≡◌, ◌++◌, ◌∷◌, [], Ok, IfOk};
 
 use crate::expr::Expr;
-use crate::measured::both;
 use crate::stmt::{ColumnDef, InsertRows, OrderTerm, ResultItem, SelectStmt, Stmt};
 use rq_values::{NoMemory, Text, TryCopy};
 use sqlite_items::{Boxed, Items};
 use std::alloc::Global;
+
+/// Both, if both are there.
+pub fn both<A: Drop, B: Drop>(
+    one: Result<A, NoMemory>,
+    two: Result<B, NoMemory>,
+) -> Result<(A, B), NoMemory>
+    ensures { IfOk result (λ pair. (one ≡ Ok pair.0) × (two ≡ Ok pair.1)) }
+{
+    match one {
+        Ok(one) => match two {
+            Ok(two) => Ok((one, two)),
+            Err(error) => {
+                drop(one);
+                Err(error)
+            }
+        },
+        Err(error) => {
+            drop(two);
+            Err(error)
+        }
+    }
+}
 
 /// The list with one more item at its end.
 fn with_item<T: Drop>(mut list: Items<T>, item: T) -> Result<Items<T>, NoMemory>
@@ -52,52 +73,31 @@ fn copy_expr(alloc: Global, expr: &Expr) -> Result<Expr, NoMemory>
     ensures { IfOk result (λ copy. copy ≡ expr.now) }
 {
     match expr {
-        Expr::Literal(value) => match value.copy(alloc) {
-            Ok(value) => Ok(Expr::Literal(value)),
-            Err(error) => Err(error),
-        },
-        Expr::Param(name) => match name.copy(alloc) {
-            Ok(name) => Ok(Expr::Param(name)),
-            Err(error) => Err(error),
-        },
-        Expr::Name(name) => match name.copy(alloc) {
-            Ok(name) => Ok(Expr::Name(name)),
-            Err(error) => Err(error),
-        },
+        Expr::Literal(value) => Ok(Expr::Literal(value.copy(alloc)?)),
+        Expr::Param(name) => Ok(Expr::Param(name.copy(alloc)?)),
+        Expr::Name(name) => Ok(Expr::Name(name.copy(alloc)?)),
         Expr::Qualified { table, column } => {
-            match both(table.copy(alloc), column.copy(alloc)) {
-                Ok((table, column)) => Ok(Expr::Qualified { table, column }),
-                Err(error) => Err(error),
-            }
+            let (table, column) = both(table.copy(alloc), column.copy(alloc))?;
+            Ok(Expr::Qualified { table, column })
         }
         Expr::CurrentTimestamp => Ok(Expr::CurrentTimestamp),
         Expr::CurrentDate => Ok(Expr::CurrentDate),
         Expr::CurrentTime => Ok(Expr::CurrentTime),
         Expr::CountAll => Ok(Expr::CountAll),
         Expr::Call { name, args } => {
-            match both(name.copy(alloc), copy_list(alloc, args.as_slice())) {
-                Ok((name, args)) => Ok(Expr::Call { name, args }),
-                Err(error) => Err(error),
-            }
+            let (name, args) = both(name.copy(alloc), copy_list(alloc, args.as_slice()))?;
+            Ok(Expr::Call { name, args })
         }
-        Expr::Minus(operand) => match copy_boxed(alloc, operand.get()) {
-            Ok(operand) => Ok(Expr::Minus(operand)),
-            Err(error) => Err(error),
-        },
-        Expr::Not(operand) => match copy_boxed(alloc, operand.get()) {
-            Ok(operand) => Ok(Expr::Not(operand)),
-            Err(error) => Err(error),
-        },
+        Expr::Minus(operand) => Ok(Expr::Minus(copy_boxed(alloc, operand.get())?)),
+        Expr::Not(operand) => Ok(Expr::Not(copy_boxed(alloc, operand.get())?)),
         Expr::Binary { op, left, right } => {
             let left = copy_boxed(alloc, left.get());
-            match both(left, copy_boxed(alloc, right.get())) {
-                Ok((left, right)) => Ok(Expr::Binary {
-                    op: *op,
-                    left,
-                    right,
-                }),
-                Err(error) => Err(error),
-            }
+            let (left, right) = both(left, copy_boxed(alloc, right.get()))?;
+            Ok(Expr::Binary {
+                op: *op,
+                left,
+                right,
+            })
         }
         Expr::InList {
             negated,
@@ -105,14 +105,12 @@ fn copy_expr(alloc: Global, expr: &Expr) -> Result<Expr, NoMemory>
             list,
         } => {
             let left = copy_boxed(alloc, left.get());
-            match both(left, copy_list(alloc, list.as_slice())) {
-                Ok((left, list)) => Ok(Expr::InList {
-                    negated: *negated,
-                    left,
-                    list,
-                }),
-                Err(error) => Err(error),
-            }
+            let (left, list) = both(left, copy_list(alloc, list.as_slice()))?;
+            Ok(Expr::InList {
+                negated: *negated,
+                left,
+                list,
+            })
         }
         Expr::Between {
             negated,
@@ -121,15 +119,13 @@ fn copy_expr(alloc: Global, expr: &Expr) -> Result<Expr, NoMemory>
             high,
         } => {
             let halves = both(copy_boxed(alloc, left.get()), copy_boxed(alloc, low.get()));
-            match both(halves, copy_boxed(alloc, high.get())) {
-                Ok(((left, low), high)) => Ok(Expr::Between {
-                    negated: *negated,
-                    left,
-                    low,
-                    high,
-                }),
-                Err(error) => Err(error),
-            }
+            let ((left, low), high) = both(halves, copy_boxed(alloc, high.get()))?;
+            Ok(Expr::Between {
+                negated: *negated,
+                left,
+                low,
+                high,
+            })
         }
     }
 }

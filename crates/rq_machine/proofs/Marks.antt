@@ -4,8 +4,8 @@ use Rattle.rq_grammar.specs.declared.token.Token.{Token}
 use Rattle.rq_grammar.specs.declared.token.Token.TheVariants as t
 use Rattle.rq_grammar.specs.declared.expr.BinaryOp.{BinaryOp}
 use Rattle.rq_grammar.specs.declared.expr.Expr.{Expr}
-use Rattle.rq_grammar.specs.Stack.{Stack, binary}
-use Rattle.rq_grammar.specs.Machine.{done}
+use Rattle.rq_automaton.specs.Stack.{Stack, binary}
+use Rattle.rq_automaton.specs.Machine.{done}
 use Rattle.rq_machine.specs.Marks.{mark_operator}
 
 same : (o o' : BinaryOp) (m : ℕ) (st : Stack) (a : Expr) → Some o ≡ Some o' → binary o m st a ≡ binary o' m st a

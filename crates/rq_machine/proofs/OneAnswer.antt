@@ -1,6 +1,6 @@
 -- The definition leaves one answer.
 use Rattle.std.proofs.Common.{◌≡◌, Result, Ok, Err, refl, ap}
-use Rattle.rq_grammar.specs.declared.frame.State.{State}
+use Rattle.rq_automaton.specs.declared.frame.State.{State}
 use Rattle.rq_grammar.specs.Depth as depth
 use Rattle.rq_machine.specs.declared.stop.Stop.{Stop}
 use Rattle.rq_machine.specs.declared.stop.Stop.TheVariants as stop

@@ -1,8 +1,8 @@
 -- What is open behind an operand.
 use Rattle.std.specs.Prelude.{ℕ, ◌≡◌, Bool, true, false, ◌&&◌, nat_le, List, [], ◌∷◌, Option, Some, None}
 use Rattle.rq_grammar.specs.declared.expr.Expr.{Expr}
-use Rattle.rq_grammar.specs.declared.frame.Frame.{Frame}
-use Rattle.rq_grammar.specs.Stack.{Stack, room, pop_of}
+use Rattle.rq_automaton.specs.declared.frame.Frame.{Frame}
+use Rattle.rq_automaton.specs.Stack.{Stack, room, pop_of}
 
 -- whether an operator of level k may stand behind an operand of level m, and what is open then
 abbrev pub IsTied : ℕ → ℕ → Stack × Expr → Option (Stack × Expr) → Type 0

@@ -1,11 +1,11 @@
 -- Why the machine stops, in code and in the grammar's words.
 use Rattle.std.specs.Prelude.{ℕ, ◌≡◌, Result, Ok, Err, MatchResult}
 use Rattle.rq_grammar.specs.declared.token.Token.{Token}
-use Rattle.rq_grammar.specs.declared.frame.State.{State}
+use Rattle.rq_automaton.specs.declared.frame.State.{State}
 use Rattle.rq_grammar.specs.Depth as depth
 use Rattle.rq_grammar.specs.Depth.{the_limits, open_behind}
-use Rattle.rq_grammar.specs.Machine.{step}
-use Rattle.rq_grammar.specs.Weight.{limited}
+use Rattle.rq_automaton.specs.Machine.{step}
+use Rattle.rq_automaton.specs.Weight.{limited}
 use Rattle.rq_machine.specs.declared.stop.Stop.{Stop}
 use Rattle.rq_machine.specs.declared.stop.Stop.TheVariants as stop
 

@@ -1,22 +1,23 @@
 //! Behind the expression of a clause.
 
 ghost use Rattle.std.specs.Prelude.{◌≡◌, ◌++◌, ◌∷◌, [], None, IfOk};
-ghost use Rattle.rq_grammar.specs.Machine as machine;
-ghost use Rattle.rq_grammar.specs.Places as spec;
-ghost use Rattle.rq_grammar.specs.declared.frame.Frame.TheVariants as f;
-ghost use Rattle.rq_grammar.specs.declared.place.Place.TheVariants as p;
-ghost use Rattle.rq_grammar.specs.declared.place.InsertPlace.TheVariants as ip;
-ghost use Rattle.rq_grammar.specs.declared.place.SelectPlace.TheVariants as sp;
-ghost use Rattle.rq_grammar.specs.declared.place.Stage.TheVariants as stage;
+ghost use Rattle.rq_automaton.specs.Machine as machine;
+ghost use Rattle.rq_automaton.specs.Places as spec;
+ghost use Rattle.rq_automaton.specs.declared.frame.Frame.TheVariants as f;
+ghost use Rattle.rq_automaton.specs.declared.place.Place.TheVariants as p;
+ghost use Rattle.rq_automaton.specs.declared.place.InsertPlace.TheVariants as ip;
+ghost use Rattle.rq_automaton.specs.declared.place.SelectPlace.TheVariants as sp;
+ghost use Rattle.rq_automaton.specs.declared.place.Stage.TheVariants as stage;
 
 use crate::names::{Step, at, behind};
 use crate::place_weights::clause_floor;
 use crate::places::{place_finish, place_step};
 use crate::select::tail_at;
-use rq_grammar::{
+use rq_automaton::{
     Clause, InsertPlace, Measured, MeasuredList, MeasuredQuery, MeasuredRows, MeasuredSets,
-    MeasuredStmt, Place, SelectPlace, Stack, Stage, State, Stmt, Target, Token, UpdatePlace, Word,
+    MeasuredStmt, Place, SelectPlace, Stack, Stage, State, Target, UpdatePlace,
 };
+use rq_grammar::{Stmt, Token, Word};
 use rq_values::{NoMemory, Text};
 use std::alloc::Global;
 
@@ -256,7 +257,7 @@ fn limit_on(alloc: Global, query: MeasuredQuery, expr: Measured, token: Token) -
 }
 
 /// Behind an expression of the clause.
-#[tactic(auto, unfolding(rq_grammar::specs::Machine::clause_on))]
+#[tactic(auto, unfolding(rq_automaton::specs::Machine::clause_on))]
 pub(crate) fn clause_on(alloc: Global, clause: Clause, expr: Measured, token: Token) -> Step
     ensures { IfOk result (λ next. next ≡ machine.clause_on clause expr token) }
 {

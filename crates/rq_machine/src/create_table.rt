@@ -1,19 +1,20 @@
 //! `CREATE TABLE`, up to its end.
 
 ghost use Rattle.std.specs.Prelude.{◌≡◌, None, IfOk};
-ghost use Rattle.rq_grammar.specs.Places as spec;
+ghost use Rattle.rq_automaton.specs.Places as spec;
 ghost use Rattle.rq_grammar.specs.Statements.{plain_column};
-ghost use Rattle.rq_grammar.specs.declared.place.Place.TheVariants as p;
-ghost use Rattle.rq_grammar.specs.declared.place.CreatePlace.TheVariants as cp;
+ghost use Rattle.rq_automaton.specs.declared.place.Place.TheVariants as p;
+ghost use Rattle.rq_automaton.specs.declared.place.CreatePlace.TheVariants as cp;
 
 use crate::names::{Step, at, behind, name_of};
-use rq_grammar::{ColumnDef, ColumnKind, CreatePlace, MeasuredStmt, NewTable, Place, Token, Word};
+use rq_automaton::{CreatePlace, MeasuredStmt, NewTable, Place};
+use rq_grammar::{ColumnDef, ColumnKind, Token, Word};
 use rq_values::{NoMemory, Text};
 use sqlite_items::Items;
 use std::alloc::Global;
 
 /// The state behind the token, at a place of a `CREATE`.
-#[tactic(auto, unfolding(rq_grammar::specs::Places::create_step))]
+#[tactic(auto, unfolding(rq_automaton::specs::Places::create_step))]
 pub(crate) fn create_step(alloc: Global, place: CreatePlace, token: Token) -> Step
     ensures { IfOk result (λ next. next ≡ spec.create_step place token) }
 {

@@ -1,19 +1,20 @@
 //! `DELETE`, up to its condition.
 
 ghost use Rattle.std.specs.Prelude.{◌≡◌, IfOk};
-ghost use Rattle.rq_grammar.specs.Places as spec;
-ghost use Rattle.rq_grammar.specs.declared.place.Place.TheVariants as p;
-ghost use Rattle.rq_grammar.specs.declared.place.DeletePlace.TheVariants as del;
+ghost use Rattle.rq_automaton.specs.Places as spec;
+ghost use Rattle.rq_automaton.specs.declared.place.Place.TheVariants as p;
+ghost use Rattle.rq_automaton.specs.declared.place.DeletePlace.TheVariants as del;
 
 use crate::clauses::inside;
 use crate::ended::behind_ended;
 use crate::names::{Step, at, behind, name_of};
-use rq_grammar::{Clause, DeletePlace, MeasuredStmt, Place, Token, Word};
+use rq_automaton::{Clause, DeletePlace, MeasuredStmt, Place};
+use rq_grammar::{Token, Word};
 use rq_values::Text;
 use std::alloc::Global;
 
 /// The state behind the token, at a place of a `DELETE`.
-#[tactic(auto, unfolding(rq_grammar::specs::Places::delete_step))]
+#[tactic(auto, unfolding(rq_automaton::specs::Places::delete_step))]
 pub(crate) fn delete_step(alloc: Global, place: DeletePlace, token: Token) -> Step
     ensures { IfOk result (λ next. next ≡ spec.delete_step place token) }
 {

@@ -2,14 +2,15 @@
 
 ghost use Rattle.std.specs.Prelude.{◌≡◌, IfOk, None, Some};
 ghost use Rattle.rq_grammar.specs.Grammar.{upper};
-ghost use Rattle.rq_grammar.specs.declared.frame.State.TheVariants as s;
-ghost use Rattle.rq_grammar.specs.Machine as spec;
+ghost use Rattle.rq_automaton.specs.declared.frame.State.TheVariants as s;
+ghost use Rattle.rq_automaton.specs.Machine as spec;
 ghost use Rattle.rq_machine.specs.Marks.{mark_operator};
 
 use crate::ending::ended;
 use crate::names::Step;
 use crate::operators::{among, and, between, binary, is, not};
-use rq_grammar::{BinaryOp, Measured, Stack, State, Token, Word};
+use rq_automaton::{Measured, Stack, State};
+use rq_grammar::{BinaryOp, Token, Word};
 use rq_values::Text;
 use std::alloc::Global;
 
@@ -46,7 +47,7 @@ pub(crate) fn done(alloc: Global, m: u8, stack: Stack, expr: Measured, token: To
 }
 
 /// A token that is no operator by itself.
-#[tactic(auto, unfolding(rq_grammar::specs::Machine::done))]
+#[tactic(auto, unfolding(rq_automaton::specs::Machine::done))]
 fn done_else(alloc: Global, m: u8, stack: Stack, expr: Measured, token: Token) -> Step
     requires { mark_operator token ≡ None }
     ensures { IfOk result (λ x. x ≡ spec.done m stack expr token) }

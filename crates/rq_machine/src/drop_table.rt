@@ -1,20 +1,21 @@
 //! `DROP TABLE`, up to its end.
 
 ghost use Rattle.std.specs.Prelude.{◌≡◌, IfOk};
-ghost use Rattle.rq_grammar.specs.Places as spec;
-ghost use Rattle.rq_grammar.specs.declared.place.Place.TheVariants as p;
-ghost use Rattle.rq_grammar.specs.declared.place.DropPlace.TheVariants as dp;
+ghost use Rattle.rq_automaton.specs.Places as spec;
+ghost use Rattle.rq_automaton.specs.declared.place.Place.TheVariants as p;
+ghost use Rattle.rq_automaton.specs.declared.place.DropPlace.TheVariants as dp;
 ghost use Rattle.rq_grammar.specs.declared.stmt.Stmt.TheVariants as s;
 ghost use Rattle.rq_machine.specs.Keywords.{is_if};
 
 use crate::ended::behind_ended;
 use crate::names::{Step, at, behind, name_of};
-use rq_grammar::{DropPlace, MeasuredStmt, Place, Token, Word};
+use rq_automaton::{DropPlace, MeasuredStmt, Place};
+use rq_grammar::{Token, Word};
 use rq_values::Text;
 use std::alloc::Global;
 
 /// The state behind the token, at a place of a `DROP`.
-#[tactic(auto, unfolding(rq_grammar::specs::Places::drop_step))]
+#[tactic(auto, unfolding(rq_automaton::specs::Places::drop_step))]
 pub(crate) fn drop_step(alloc: Global, place: DropPlace, token: Token) -> Step
     ensures { IfOk result (λ next. next ≡ spec.drop_step place token) }
 {

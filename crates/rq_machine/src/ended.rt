@@ -1,10 +1,11 @@
 //! Behind a whole statement.
 
 ghost use Rattle.std.specs.Prelude.{◌≡◌, IfOk};
-ghost use Rattle.rq_grammar.specs.Places as spec;
+ghost use Rattle.rq_automaton.specs.Places as spec;
 
 use crate::names::{Step, at};
-use rq_grammar::{MeasuredStmt, Place, Token};
+use rq_automaton::{MeasuredStmt, Place};
+use rq_grammar::Token;
 use std::alloc::Global;
 
 /// Behind a whole statement.

@@ -1,13 +1,14 @@
 //! The token behind an expression that it ends.
 
 ghost use Rattle.std.specs.Prelude.{◌≡◌, IfOk};
-ghost use Rattle.rq_grammar.specs.Machine as spec;
-ghost use Rattle.rq_grammar.specs.Stack as k;
+ghost use Rattle.rq_automaton.specs.Machine as spec;
+ghost use Rattle.rq_automaton.specs.Stack as k;
 
 use crate::clauses::{clause_on, landed_end};
 use crate::names::Step;
 use crate::reduce::{going_on, opened};
-use rq_grammar::{Frame, Measured, MeasuredList, Stack, State, Stmt, Token};
+use rq_automaton::{Frame, Measured, MeasuredList, Stack, State};
+use rq_grammar::{Stmt, Token};
 use rq_values::{NoMemory, Text};
 use std::alloc::Global;
 
@@ -114,7 +115,7 @@ fn among_on(
     }
 }
 
-#[tactic(auto, unfolding(rq_grammar::specs::Machine::ended_on))]
+#[tactic(auto, unfolding(rq_automaton::specs::Machine::ended_on))]
 fn ended_on(alloc: Global, token: Token, frame: Option<Frame>, stack: Stack, expr: Measured) -> Step
     ensures { IfOk result (λ x. x ≡ spec.ended_on token frame stack expr) }
 {
@@ -156,7 +157,7 @@ pub(crate) fn ended(alloc: Global, stack: Stack, expr: Measured, token: Token) -
     }
 }
 
-#[tactic(auto, unfolding(rq_grammar::specs::Machine::end_on))]
+#[tactic(auto, unfolding(rq_automaton::specs::Machine::end_on))]
 fn end_on(frame: Option<Frame>, expr: Measured) -> Result<Option<Stmt>, NoMemory>
     ensures { IfOk result (λ x. (st : k.Stack) → x ≡ spec.end_on frame st expr) }
 {

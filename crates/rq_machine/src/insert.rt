@@ -1,23 +1,24 @@
 //! `INSERT`, up to its rows or its select.
 
 ghost use Rattle.std.specs.Prelude.{◌≡◌, ◌++◌, ◌∷◌, [], IfOk};
-ghost use Rattle.rq_grammar.specs.Places as spec;
-ghost use Rattle.rq_grammar.specs.declared.place.Place.TheVariants as p;
-ghost use Rattle.rq_grammar.specs.declared.place.InsertPlace.TheVariants as ip;
+ghost use Rattle.rq_automaton.specs.Places as spec;
+ghost use Rattle.rq_automaton.specs.declared.place.Place.TheVariants as p;
+ghost use Rattle.rq_automaton.specs.declared.place.InsertPlace.TheVariants as ip;
 
 use crate::clauses::inside;
 use crate::ended::behind_ended;
 use crate::names::{Step, at, behind, name_of};
-use rq_grammar::{
+use rq_automaton::{
     Clause, InsertPlace, MeasuredList, MeasuredQuery, MeasuredRows, MeasuredStmt, Place,
-    SelectPlace, Target, Token, Word,
+    SelectPlace, Target,
 };
+use rq_grammar::{Token, Word};
 use rq_values::{NoMemory, Text};
 use sqlite_items::Items;
 use std::alloc::Global;
 
 /// The state behind the token, at a place of an `INSERT`.
-#[tactic(auto, unfolding(rq_grammar::specs::Places::insert_step))]
+#[tactic(auto, unfolding(rq_automaton::specs::Places::insert_step))]
 pub(crate) fn insert_step(alloc: Global, place: InsertPlace, token: Token) -> Step
     ensures { IfOk result (λ next. next ≡ spec.insert_step place token) }
 {

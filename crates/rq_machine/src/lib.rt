@@ -1,6 +1,6 @@
 //! The machine that reads statements, in code: a state and a token give the next state, within the limits.
 //!
-//! The definitions are those of rq_grammar; docs/SQL.md, "What is refused, and where".
+//! The definitions are those of rq_automaton; docs/SQL.md, "What is refused, and where".
 #![tactic(auto)]
 
 mod clauses;

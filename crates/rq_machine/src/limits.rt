@@ -2,10 +2,11 @@
 
 ghost use Rattle.std.specs.Prelude.{◌≡◌, suc, ◌+◌, ◌≤◌, ◌&&◌, min, nat_le};
 ghost use Rattle.rq_grammar.specs.Depth as spec;
-ghost use Rattle.rq_grammar.specs.Weight.{weight, due};
+ghost use Rattle.rq_automaton.specs.Weight.{weight, due};
 
 use crate::place_weights::{place_due, place_weight};
-use rq_grammar::{Measured, State, Token};
+use rq_automaton::{Measured, State};
+use rq_grammar::Token;
 
 /// One level above the expression, counted up to 101.
 fn above(expr: &Measured) -> u8

@@ -1,13 +1,14 @@
 //! The token within an operand, and behind `operand NOT`, `operand IS` and `operand IN`.
 
 ghost use Rattle.std.specs.Prelude.{◌≡◌, IfOk};
-ghost use Rattle.rq_grammar.specs.Stack as spec;
+ghost use Rattle.rq_automaton.specs.Stack as spec;
 ghost use Rattle.rq_grammar.specs.declared.token.Token.TheVariants as t;
 
 use crate::names::Step;
 use crate::operand::pushed;
 use crate::reduce::going_on;
-use rq_grammar::{BinaryOp, Frame, Measured, MeasuredList, Stack, State, Token, Word};
+use rq_automaton::{Frame, Measured, MeasuredList, Stack, State};
+use rq_grammar::{BinaryOp, Token, Word};
 use rq_values::Text;
 use std::alloc::Global;
 

@@ -1,9 +1,10 @@
 //! Steps, and the name that a token is.
 
 ghost use Rattle.std.specs.Prelude.{◌≡◌, IfOk};
-ghost use Rattle.rq_grammar.specs.Places as spec;
+ghost use Rattle.rq_automaton.specs.Places as spec;
 
-use rq_grammar::{Place, State, Token};
+use rq_automaton::{Place, State};
+use rq_grammar::Token;
 use rq_values::{NoMemory, Text};
 use sqlite_items::Boxed;
 use std::alloc::Global;

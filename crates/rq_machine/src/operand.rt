@@ -1,14 +1,15 @@
 //! The token where an operand is to come.
 
 ghost use Rattle.std.specs.Prelude.{◌≡◌, ◌∷◌, IfOk, false, Some};
-ghost use Rattle.rq_grammar.specs.Stack as spec;
-ghost use Rattle.rq_grammar.specs.Load.{is_clause};
+ghost use Rattle.rq_automaton.specs.Stack as spec;
+ghost use Rattle.rq_automaton.specs.Load.{is_clause};
 ghost use Rattle.rq_grammar.specs.declared.token.Token.TheVariants as t;
-ghost use Rattle.rq_grammar.specs.declared.frame.State.TheVariants as s;
+ghost use Rattle.rq_automaton.specs.declared.frame.State.TheVariants as s;
 
 use crate::names::Step;
 use crate::reduce::going_on;
-use rq_grammar::{Frame, Measured, Stack, State, Token, Word};
+use rq_automaton::{Frame, Measured, Stack, State};
+use rq_grammar::{Token, Word};
 use rq_values::{Text, Value};
 
 /// The token where an operand is to come.

@@ -1,14 +1,15 @@
 //! An operator behind an operand of level `m`.
 
 ghost use Rattle.std.specs.Prelude.{◌≡◌, ◌∷◌, IfOk, false};
-ghost use Rattle.rq_grammar.specs.Stack as spec;
+ghost use Rattle.rq_automaton.specs.Stack as spec;
 ghost use Rattle.rq_grammar.specs.declared.expr.BinaryOp.TheVariants as op;
-ghost use Rattle.rq_grammar.specs.declared.frame.Frame.TheVariants as f;
-ghost use Rattle.rq_grammar.specs.declared.frame.State.TheVariants as s;
+ghost use Rattle.rq_automaton.specs.declared.frame.Frame.TheVariants as f;
+ghost use Rattle.rq_automaton.specs.declared.frame.State.TheVariants as s;
 
 use crate::names::Step;
 use crate::reduce::{going_on, reduce, tied};
-use rq_grammar::{BinaryOp, Frame, Measured, Stack, State};
+use rq_automaton::{Frame, Measured, Stack, State};
+use rq_grammar::BinaryOp;
 use std::alloc::Global;
 
 pub(crate) fn binary(alloc: Global, op: BinaryOp, m: u8, stack: Stack, expr: Measured) -> Step

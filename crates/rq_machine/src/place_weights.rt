@@ -1,11 +1,11 @@
 //! How deep a statement must be that goes on from a place, and which parentheses it still needs. A depth counts up to 101.
 
 ghost use Rattle.std.specs.Prelude.{◌≡◌, min};
-ghost use Rattle.rq_grammar.specs.Load.{clause_least};
-ghost use Rattle.rq_grammar.specs.Weight.{place_weight, place_due};
-ghost use Rattle.rq_grammar.specs.declared.place.Place.TheVariants as p;
+ghost use Rattle.rq_automaton.specs.Load.{clause_least};
+ghost use Rattle.rq_automaton.specs.Weight.{place_weight, place_due};
+ghost use Rattle.rq_automaton.specs.declared.place.Place.TheVariants as p;
 
-use rq_grammar::{Clause, CreatePlace, InsertPlace, Place, SelectPlace, Stage, UpdatePlace};
+use rq_automaton::{Clause, CreatePlace, InsertPlace, Place, SelectPlace, Stage, UpdatePlace};
 
 /// The depth that the clause has before its expression.
 pub(crate) fn clause_floor(clause: &Clause) -> u8

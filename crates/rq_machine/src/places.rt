@@ -1,7 +1,7 @@
 //! Between expressions: what each token leads to, by statement.
 
 ghost use Rattle.std.specs.Prelude.{◌≡◌, IfOk};
-ghost use Rattle.rq_grammar.specs.Places as spec;
+ghost use Rattle.rq_automaton.specs.Places as spec;
 
 use crate::create_table::create_step;
 use crate::delete::delete_step;
@@ -11,10 +11,11 @@ use crate::insert::insert_step;
 use crate::names::{Step, at, behind};
 use crate::select::select_step;
 use crate::update::update_step;
-use rq_grammar::{
+use rq_automaton::{
     CreatePlace, DeletePlace, DropPlace, InsertPlace, MeasuredQuery, MeasuredStmt, Place,
-    SelectPlace, Stmt, Token, UpdatePlace, Word,
+    SelectPlace, UpdatePlace,
 };
+use rq_grammar::{Stmt, Token, Word};
 use std::alloc::Global;
 
 /// The first token.
@@ -36,7 +37,7 @@ fn start(alloc: Global, token: &Token) -> Step
 }
 
 /// The state behind the token, if one may stand at the place.
-#[tactic(auto, unfolding(rq_grammar::specs::Places::place_step))]
+#[tactic(auto, unfolding(rq_automaton::specs::Places::place_step))]
 pub(crate) fn place_step(alloc: Global, place: Place, token: Token) -> Step
     ensures { IfOk result (λ next. next ≡ spec.place_step place token) }
 {
@@ -53,7 +54,7 @@ pub(crate) fn place_step(alloc: Global, place: Place, token: Token) -> Step
 }
 
 /// The statement, if the tokens end here.
-#[tactic(auto, unfolding(rq_grammar::specs::Places::place_finish))]
+#[tactic(auto, unfolding(rq_automaton::specs::Places::place_finish))]
 pub(crate) fn place_finish(place: Place) -> Option<Stmt>
     ensures { result ≡ spec.place_finish place }
 {

@@ -1,13 +1,13 @@
 //! Ending what is open before a token.
 
 ghost use Rattle.std.specs.Prelude.{◌≡◌, ◌∷◌, IfOk, false, Some};
-ghost use Rattle.rq_grammar.specs.Stack as spec;
-ghost use Rattle.rq_grammar.specs.Load.{is_clause};
-ghost use Rattle.rq_grammar.specs.declared.frame.State.TheVariants as s;
+ghost use Rattle.rq_automaton.specs.Stack as spec;
+ghost use Rattle.rq_automaton.specs.Load.{is_clause};
+ghost use Rattle.rq_automaton.specs.declared.frame.State.TheVariants as s;
 ghost use Rattle.rq_machine.specs.Behind.{IsTied, IsOpen};
 
 use crate::names::Step;
-use rq_grammar::{Frame, Measured, Stack, State};
+use rq_automaton::{Frame, Measured, Stack, State};
 use rq_values::NoMemory;
 use std::alloc::Global;
 

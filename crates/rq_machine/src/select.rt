@@ -1,10 +1,10 @@
 //! `SELECT`, between its expressions.
 
 ghost use Rattle.std.specs.Prelude.{◌≡◌, ◌∷◌, [], Some, IfOk};
-ghost use Rattle.rq_grammar.specs.Places as spec;
-ghost use Rattle.rq_grammar.specs.declared.place.Place.TheVariants as p;
-ghost use Rattle.rq_grammar.specs.declared.place.SelectPlace.TheVariants as sp;
-ghost use Rattle.rq_grammar.specs.declared.place.Stage.TheVariants as stage;
+ghost use Rattle.rq_automaton.specs.Places as spec;
+ghost use Rattle.rq_automaton.specs.declared.place.Place.TheVariants as p;
+ghost use Rattle.rq_automaton.specs.declared.place.SelectPlace.TheVariants as sp;
+ghost use Rattle.rq_automaton.specs.declared.place.Stage.TheVariants as stage;
 ghost use Rattle.rq_grammar.specs.declared.stmt.ResultItem.TheVariants as item;
 ghost use Rattle.rq_machine.specs.Keywords.{is_from, is_where};
 
@@ -12,11 +12,12 @@ use crate::clauses::{inside, stack_of};
 use crate::ended::behind_ended;
 use crate::names::{Step, at, behind, name_of};
 use crate::operand::operand;
-use rq_grammar::{Clause, Measured, MeasuredQuery, Place, SelectPlace, Stage, Token, Word};
+use rq_automaton::{Clause, Measured, MeasuredQuery, Place, SelectPlace, Stage};
+use rq_grammar::{Token, Word};
 use std::alloc::Global;
 
 /// The state behind the token, at a place of a select.
-#[tactic(auto, unfolding(rq_grammar::specs::Places::select_step))]
+#[tactic(auto, unfolding(rq_automaton::specs::Places::select_step))]
 pub(crate) fn select_step(alloc: Global, place: SelectPlace, token: Token) -> Step
     ensures { IfOk result (λ next. next ≡ spec.select_step place token) }
 {

@@ -1,7 +1,7 @@
 //! The machine: the next state, and the statement at the end.
 
 ghost use Rattle.std.specs.Prelude.{◌≡◌, IfOk};
-ghost use Rattle.rq_grammar.specs.Machine as spec;
+ghost use Rattle.rq_automaton.specs.Machine as spec;
 
 use crate::done::{done, named, quoted};
 use crate::ending::end;
@@ -9,12 +9,13 @@ use crate::modes::{among, called, counted, denied, dotted, is, listed};
 use crate::names::Step;
 use crate::operand::{operand, signed};
 use crate::places::{place_finish, place_step};
-use rq_grammar::{Measured, State, Stmt, Token};
+use rq_automaton::{Measured, State};
+use rq_grammar::{Stmt, Token};
 use rq_values::NoMemory;
 use std::alloc::Global;
 
 /// The next state, None where no statement goes on with the token.
-#[tactic(auto, unfolding(rq_grammar::specs::Machine::step))]
+#[tactic(auto, unfolding(rq_automaton::specs::Machine::step))]
 pub(crate) fn step(alloc: Global, state: State, token: Token) -> Step
     ensures { IfOk result (λ x. x ≡ spec.step state token) }
 {
@@ -36,7 +37,7 @@ pub(crate) fn step(alloc: Global, state: State, token: Token) -> Step
 }
 
 /// The statement, if the tokens end here.
-#[tactic(auto, unfolding(rq_grammar::specs::Machine::finish))]
+#[tactic(auto, unfolding(rq_automaton::specs::Machine::finish))]
 pub(crate) fn finish(alloc: Global, state: State) -> Result<Option<Stmt>, NoMemory>
     ensures { IfOk result (λ x. x ≡ spec.finish state) }
 {

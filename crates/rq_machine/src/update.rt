@@ -1,19 +1,20 @@
 //! `UPDATE`, between its expressions.
 
 ghost use Rattle.std.specs.Prelude.{◌≡◌, IfOk};
-ghost use Rattle.rq_grammar.specs.Places as spec;
-ghost use Rattle.rq_grammar.specs.declared.place.Place.TheVariants as p;
-ghost use Rattle.rq_grammar.specs.declared.place.UpdatePlace.TheVariants as up;
+ghost use Rattle.rq_automaton.specs.Places as spec;
+ghost use Rattle.rq_automaton.specs.declared.place.Place.TheVariants as p;
+ghost use Rattle.rq_automaton.specs.declared.place.UpdatePlace.TheVariants as up;
 
 use crate::clauses::inside;
 use crate::ended::behind_ended;
 use crate::names::{Step, at, behind, name_of};
-use rq_grammar::{Clause, MeasuredSets, MeasuredStmt, Place, Token, UpdatePlace, Word};
+use rq_automaton::{Clause, MeasuredSets, MeasuredStmt, Place, UpdatePlace};
+use rq_grammar::{Token, Word};
 use rq_values::Text;
 use std::alloc::Global;
 
 /// The state behind the token, at a place of an `UPDATE`.
-#[tactic(auto, unfolding(rq_grammar::specs::Places::update_step))]
+#[tactic(auto, unfolding(rq_automaton::specs::Places::update_step))]
 pub(crate) fn update_step(alloc: Global, place: UpdatePlace, token: Token) -> Step
     ensures { IfOk result (λ next. next ≡ spec.update_step place token) }
 {

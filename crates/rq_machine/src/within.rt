@@ -2,14 +2,15 @@
 
 ghost use Rattle.std.specs.Prelude.{◌≡◌, ◌≤◌, IfOk, Some};
 ghost use Rattle.rq_grammar.specs.Depth as spec;
-ghost use Rattle.rq_grammar.specs.Machine as m;
-ghost use Rattle.rq_grammar.specs.Weight.{limited};
+ghost use Rattle.rq_automaton.specs.Machine as m;
+ghost use Rattle.rq_automaton.specs.Weight.{limited};
 ghost use Rattle.rq_machine.specs.Stop.{Answers, Advances};
 
 use crate::limits::{fits, open_behind};
 use crate::step;
 use crate::stop::Stop;
-use rq_grammar::{State, Stmt, Token};
+use rq_automaton::State;
+use rq_grammar::{Stmt, Token};
 use rq_values::NoMemory;
 use std::alloc::Global;
 

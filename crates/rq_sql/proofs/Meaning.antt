@@ -7,8 +7,8 @@ use Rattle.rq_grammar.specs.declared.stmt.Stmt.{Stmt}
 use Rattle.rq_grammar.specs.Words.{Text, Tokens}
 use Rattle.rq_grammar.specs.Statements.{Spells, GoesOn}
 use Rattle.rq_grammar.specs.Depth.{the_limits, Limits, SpellsWithin, GoesOnWithin, Stop, NoStatement, TooDeep, Refuses, StopsAt}
-use Rattle.rq_grammar.specs.Machine.{Start}
-use Rattle.rq_grammar.specs.Weight.{parse_within}
+use Rattle.rq_automaton.specs.Machine.{Start}
+use Rattle.rq_automaton.specs.Weight.{parse_within}
 use Rattle.rq_lexer.specs.declared.placed.Placed.{Placed}
 use Rattle.rq_lexer.specs.Lex.{lex}
 use Rattle.rq_lexer.specs.Spelled.{tokens_in}

@@ -3,11 +3,11 @@ use Rattle.std.proofs.Common.{ℕ, ◌+◌, ◌≡◌, ◌≤◌, ◌<◌, ◌�
 use Rattle.std.specs.Prelude.{nat_le, ◌&&◌, MatchResult}
 use Rattle.std.proofs.lemmas.Bool.Decides.{nat_tests}
 use Rattle.rq_grammar.specs.declared.stmt.Stmt.{Stmt}
-use Rattle.rq_grammar.specs.declared.frame.State.{State}
+use Rattle.rq_automaton.specs.declared.frame.State.{State}
 use Rattle.rq_grammar.specs.Depth as depth
 use Rattle.rq_grammar.specs.Depth.{the_limits, open_behind}
-use Rattle.rq_grammar.specs.Machine.{step, finish}
-use Rattle.rq_grammar.specs.Weight.{weight, due, limited, one_later, going, or_nothing, parse_within}
+use Rattle.rq_automaton.specs.Machine.{step, finish}
+use Rattle.rq_automaton.specs.Weight.{weight, due, limited, one_later, going, or_nothing, parse_within}
 use Rattle.rq_lexer.specs.declared.placed.Placed.{Placed}
 use Rattle.rq_lexer.specs.Facts as lexing
 use Rattle.rq_machine.specs.declared.stop.Stop.{Stop}

@@ -1,9 +1,9 @@
 -- What is answered from a state of the machine on.
 use Rattle.std.specs.Prelude.{ℕ, ◌≡◌, ◌≤◌, ◌<◌, List, map, length, drop, Result, Ok, Err}
 use Rattle.rq_grammar.specs.declared.stmt.Stmt.{Stmt}
-use Rattle.rq_grammar.specs.declared.frame.State.{State}
+use Rattle.rq_automaton.specs.declared.frame.State.{State}
 use Rattle.rq_grammar.specs.Depth.{the_limits, Stop}
-use Rattle.rq_grammar.specs.Weight.{parse_within}
+use Rattle.rq_automaton.specs.Weight.{parse_within}
 use Rattle.rq_lexer.specs.declared.placed.Placed.{Placed}
 use Rattle.rq_sql.specs.declared.error.ReadError.{ReadError}
 use Rattle.rq_sql.specs.declared.error.ReadError.TheVariants as e

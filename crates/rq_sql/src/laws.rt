@@ -5,7 +5,7 @@ ghost use Rattle.rq_grammar.specs.declared.stmt.Stmt.{Stmt};
 ghost use Rattle.rq_sql.specs.declared.error.ReadError.{ReadError};
 ghost use Rattle.rq_sql.specs.Read.{Means};
 
-use rq_grammar::{one_place, one_statement, reads_within_limits};
+use rq_automaton::{one_place, one_statement, reads_within_limits};
 
 #[tactic(auto, using(crate::proofs::Meaning::one_answer, crate::proofs::Meaning::some_answer))]
 /// Each text means one statement or one refusal.

@@ -1,7 +1,7 @@
 //! The reader.
 
 ghost use Rattle.std.specs.Prelude.{◌≡◌, ◌<◌, length, Err};
-ghost use Rattle.rq_grammar.specs.Machine.{Start};
+ghost use Rattle.rq_automaton.specs.Machine.{Start};
 ghost use Rattle.rq_lexer.specs.Lex.{lex};
 ghost use Rattle.rq_sql.specs.declared.error.ReadError.TheVariants as errors;
 ghost use Rattle.rq_sql.specs.Read.{most_bytes, Means, Reads, ReadsOnly};
@@ -9,7 +9,8 @@ ghost use Rattle.rq_sql.specs.Running.{runs};
 
 use crate::error::ReadError;
 use crate::steps::{Next, take_token};
-use rq_grammar::{State, Stmt, one_place, one_statement, reads_within_limits};
+use rq_automaton::{State, one_place, one_statement, reads_within_limits};
+use rq_grammar::Stmt;
 use rq_lexer::Lexer;
 use std::alloc::Global;
 

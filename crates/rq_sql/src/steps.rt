@@ -7,7 +7,8 @@ ghost use Rattle.rq_sql.specs.Read as spec;
 ghost use Rattle.rq_sql.specs.Running.{IsNext};
 
 use crate::error::ReadError;
-use rq_grammar::{State, Stmt, Token, Word};
+use rq_automaton::State;
+use rq_grammar::{Stmt, Token, Word};
 use rq_lexer::{Lexer, Placed};
 use rq_machine::{Stop, advance, finish, open_behind};
 use std::alloc::Global;

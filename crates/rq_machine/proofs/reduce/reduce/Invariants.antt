@@ -1,5 +1,5 @@
 use Rattle.std.proofs.Common.{◌≡◌, length}
-use Rattle.rq_grammar.specs.Stack as spec
+use Rattle.rq_automaton.specs.Stack as spec
 use Rattle.rq_machine.proofs.reduce.reduce.Given as goal
 
 abbrev pub invariant-loop-frame : goal.invariant-loop-frame

@@ -1,5 +1,5 @@
 use Rattle.std.proofs.Common.{◌≡◌, ◌≤◌, length}
-use Rattle.rq_grammar.specs.Machine.{Start}
+use Rattle.rq_automaton.specs.Machine.{Start}
 use Rattle.rq_lexer.specs.Lex.{lex}
 use Rattle.rq_sql.specs.Running.{runs}
 use Rattle.rq_sql.proofs.reader.run.Given as goal

@@ -1,0 +1,17 @@
+pub mod Reduce
+pub mod Complete
+pub mod CompleteStatements
+pub mod Reached
+pub mod Unique
+pub mod Sound
+pub mod SoundPlaces
+pub mod SoundSteps
+pub mod Depths
+pub mod Deeper
+pub mod Due
+pub mod Room
+pub mod Popped
+pub mod Shallow
+pub mod Limited
+pub mod Stops
+pub mod Computed
