@@ -3,7 +3,8 @@ use Rattle.std.proofs.Common.{◌≡◌, ◌≤◌, ◌||◌, ◌==◌, ◌+◌,
 use Rattle.std.specs.Prelude.{All}
 use Rattle.std.proofs.lemmas.List.Elements.{All-cons, All-nil}
 use Rattle.rq_statement.specs.declared.item.Item.{Item}
-use Rattle.rq_request.specs.declared.say.Say.TheVariants.{NoLeader, EntryTooLarge}
+use Rattle.rq_request.specs.declared.say.Say.TheVariants.{Refused}
+use Rattle.rq_request.specs.declared.say.NodeRefusal.TheVariants.{NoLeader, EntryTooLarge}
 use Rattle.rq_engine.specs.Command.{execute_bytes}
 use Rattle.rq_node.specs.declared.log_entry.LogEntry.{LogEntry}
 use Rattle.rq_node.specs.declared.log_entry.Content.{Content}
@@ -47,16 +48,16 @@ elect_reads n log = (log, by (is_leader n.role || (n.term == 2 ^ 64 - 1)))
     by false = no_op_read n
 
 -- an execute, by its three ways
-module _ (P : Turn → Type 0) (n : Node) (number : ℕ) (items : List Item) (refused : P (says n number (NoLeader n.term))) (large : P (says n number (EntryTooLarge (length (execute_bytes items)))))
+module _ (P : Turn → Type 0) (n : Node) (number : ℕ) (items : List Item) (refused : P (says n number (Refused (NoLeader n.term)))) (large : P (says n number (Refused (EntryTooLarge (length (execute_bytes items))))))
     (taken : length (execute_bytes items) ≤ most_bytes → P (taken_up n number items)) where
-  sized : (b : Bool) → nat_lt most_bytes (length (execute_bytes items)) ≡ b → P (if b then says n number (EntryTooLarge (length (execute_bytes items))) else taken_up n number items)
+  sized : (b : Bool) → nat_lt most_bytes (length (execute_bytes items)) ≡ b → P (if b then says n number (Refused (EntryTooLarge (length (execute_bytes items)))) else taken_up n number items)
   sized true is = large
   sized false is = taken (grind (arith, is))
 
   pub execute_by : P (execute n number items)
   execute_by = by (is_leader n.role)
     where
-      by : (b : Bool) → P (if b then execute_sized n number items (length (execute_bytes items)) else says n number (NoLeader n.term))
+      by : (b : Bool) → P (if b then execute_sized n number items (length (execute_bytes items)) else says n number (Refused (NoLeader n.term)))
       by true = sized (nat_lt most_bytes (length (execute_bytes items))) refl
       by false = refused
 

@@ -1,4 +1,4 @@
-use rq_request::{Answer, Say};
+use rq_request::{Answer, NodeRefusal, Say};
 use rq_script::{
     ScriptLine, script_line, write_all_pending, write_answers, write_down, write_show_down,
 };
@@ -129,7 +129,7 @@ fn an_answer(rt: HostRuntime) -> Result<(), Fail> {
     let mut answers = Vec::new(rt.alloc());
     answers.push(Answer {
         number: 2,
-        say: Say::NoLeader { term: 7 },
+        say: Say::Refused(NodeRefusal::NoLeader { term: 7 }),
     })?;
     let mut text = Vec::new(rt.alloc());
     let is_done = write_answers(rt.alloc(), &answers, &mut text).is_ok();

@@ -1,9 +1,15 @@
-use rq_json::{statements_of, write_body};
-use rq_request::Say;
+use rq_json::statements_of;
+use rq_replies::reply;
+use rq_request::{NodeRefusal, Say, Shape};
 use rq_statement::Res;
 use rq_values::{Seq, Text, Value};
 use std::alloc::Global;
 use std::test::Fail;
+
+const PLAIN: Shape = Shape {
+    associative: false,
+    pretty: false,
+};
 
 fn push<T: Drop>(list: &mut Seq<T>, item: T) -> Result<(), Fail> {
     match list.push(item) {
@@ -61,7 +67,7 @@ fn results(alloc: Global) -> Result<Say, Fail> {
 
 fn is_reply(alloc: Global, say: &Say, status: u16, body: &[u8]) -> Result<bool, Fail> {
     let mut written = Vec::new(alloc);
-    let is_done = write_body(alloc, say, &mut written).is_ok();
+    let is_done = reply(alloc, say, PLAIN, &mut written).is_ok();
     let is_same = say.status() == status && written.as_slice() == body;
     drop(written);
     Ok(is_done && is_same)
@@ -81,9 +87,9 @@ fn replies_are_as_rqlite_has_them(rt: HostRuntime) -> Result<(), Fail> {
         {\"columns\":[\"id\",\"name\",\"age\"],\"types\":[\"integer\",\"text\",\"integer\"],\
         \"values\":[[1,\"fiona\",20]]},{\"error\":\"near \\\"x\\\"\\n\"}]}";
     assert!(rt; results_are(alloc, body)?);
-    let no_leader = Say::NoLeader { term: 0 };
+    let no_leader = Say::Refused(NodeRefusal::NoLeader { term: 0 });
     assert!(rt; is_reply(alloc, &no_leader, 503, b"leader not found: term 0")?);
-    let too_large = Say::EntryTooLarge(8_388_609);
+    let too_large = Say::Refused(NodeRefusal::EntryTooLarge(8_388_609));
     assert!(rt; is_reply(alloc, &too_large, 413, b"entry too large: 8388609")?);
     Ok(())
 }

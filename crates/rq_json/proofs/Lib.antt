@@ -1,2 +1,1 @@
 pub mod JsonBodies
-pub mod ReplyMembers

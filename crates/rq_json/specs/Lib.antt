@@ -1,3 +1,1 @@
 pub mod Body
-pub mod Reply
-pub mod Tokens

@@ -1,10 +1,6 @@
-//! Bodies of requests read, and bodies of replies written, as JSON.
-//!
-//! docs/SCRIPT.md, "Replies", has the rules.
+//! Bodies of a script's asks, read as JSON: docs/SCRIPT.md, "Lines".
 #![tactic(auto)]
 
 mod bodies;
-mod replying;
 
 pub use bodies::statements_of;
-pub use replying::write_body;

@@ -8,7 +8,8 @@ use Rattle.rq_node.specs.declared.log_entry.Content.TheVariants.{NoOp, Execute}
 use Rattle.rq_node.specs.declared.role.Role.{Role}
 use Rattle.rq_node.specs.declared.role.Role.TheVariants.{Follower, Candidate, Leader}
 use Rattle.rq_node.specs.declared.waiting.Waiting.{Waiting}
-use Rattle.rq_request.specs.declared.say.Say.TheVariants.{Results, NoLeader, EntryTooLarge}
+use Rattle.rq_request.specs.declared.say.Say.TheVariants.{Results, Refused}
+use Rattle.rq_request.specs.declared.say.NodeRefusal.TheVariants.{NoLeader, EntryTooLarge}
 use Rattle.rq_request.specs.declared.say.Answer.{Answer}
 use Rattle.rq_engine.specs.Meaning.{executed, answers}
 use Rattle.rq_engine.specs.Command.{execute_bytes}
@@ -49,10 +50,10 @@ abbrev pub taken_up : Node → ℕ → List Item → Turn
 taken_up n number items = record { node = appended (waits n number) (Execute items); records = splice_of n (Execute items) ∷ []; answers = [] }
 
 abbrev pub execute_sized : Node → ℕ → List Item → ℕ → Turn
-execute_sized n number items size = if nat_lt most_bytes size then says n number (EntryTooLarge size) else taken_up n number items
+execute_sized n number items size = if nat_lt most_bytes size then says n number (Refused (EntryTooLarge size)) else taken_up n number items
 
 abbrev pub execute : Node → ℕ → List Item → Turn
-execute n number items = if is_leader n.role then execute_sized n number items (length (execute_bytes items)) else says n number (NoLeader n.term)
+execute n number items = if is_leader n.role then execute_sized n number items (length (execute_bytes items)) else says n number (Refused (NoLeader n.term))
 
 -- Query at level none: the answer of the node's own database
 abbrev pub query : Node → ℕ → List Item → Turn

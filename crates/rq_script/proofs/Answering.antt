@@ -3,7 +3,8 @@ use Rattle.std.proofs.Common.{◌≡◌, ◌≤◌, ◌<◌, ℕ, zero, suc, ◌
 use Rattle.std.specs.Prelude.{⊤}
 use Rattle.std.specs.Option.{option_map}
 use Rattle.rq_statement.specs.declared.item.Item.{Item}
-use Rattle.rq_request.specs.declared.say.Say.TheVariants.{NoLeader, EntryTooLarge}
+use Rattle.rq_request.specs.declared.say.Say.TheVariants.{Refused}
+use Rattle.rq_request.specs.declared.say.NodeRefusal.TheVariants.{NoLeader, EntryTooLarge}
 use Rattle.rq_engine.specs.Command.{execute_bytes}
 use Rattle.rq_json.specs.Body.{texts_of}
 use Rattle.rq_node.specs.declared.log_entry.LogEntry.{LogEntry}
@@ -123,11 +124,11 @@ elect_due n inside due = at (is_leader n.role || (n.term == 2 ^ 64 - 1))
 execute_due : (n : Node) (number : ℕ) (items : List Item) → n.applied ≤ n.commit → n.commit ≤ length n.log → IsDue (Running n) → IsDue (Running (execute n number items).node)
 execute_due n number items within inside due = at (is_leader n.role)
   where
-    sized : (b : Bool) → IsDue (Running (if b then says n number (EntryTooLarge (length (execute_bytes items))) else taken_up n number items).node)
+    sized : (b : Bool) → IsDue (Running (if b then says n number (Refused (EntryTooLarge (length (execute_bytes items)))) else taken_up n number items).node)
     sized true = due
     sized false = due_behind n.applied n.waiting (length n.log) (length n.log + 1) number (omega (arith, within, inside)) (omega arith) (due_more n.applied n.waiting n.commit (length n.log) inside due)
 
-    at : (b : Bool) → IsDue (Running (if b then execute_sized n number items (length (execute_bytes items)) else says n number (NoLeader n.term)).node)
+    at : (b : Bool) → IsDue (Running (if b then execute_sized n number items (length (execute_bytes items)) else says n number (Refused (NoLeader n.term))).node)
     at true = sized (nat_lt most_bytes (length (execute_bytes items)))
     at false = due
 

@@ -5,7 +5,8 @@ use Rattle.std.specs.Option.{option_map}
 use Rattle.std.proofs.lemmas.List.{take_all}
 use Rattle.rq_statement.specs.declared.item.Item.{Item}
 use Rattle.rq_request.specs.declared.say.Say.{Say}
-use Rattle.rq_request.specs.declared.say.Say.TheVariants.{Results, NoLeader, EntryTooLarge}
+use Rattle.rq_request.specs.declared.say.Say.TheVariants.{Results, Refused}
+use Rattle.rq_request.specs.declared.say.NodeRefusal.TheVariants.{NoLeader, EntryTooLarge}
 use Rattle.rq_engine.specs.Meaning.{answers}
 use Rattle.rq_engine.specs.Command.{execute_bytes}
 use Rattle.rq_json.specs.Body.{texts_of}
@@ -135,13 +136,13 @@ execute_makes book more asks n items op from = at (is_leader n.role)
     longer : From (book ++ more) (asks + 1) (n.log ++ record { term = n.term; content = content.Execute items } ∷ [])
     longer = list_behind (book ++ more) 0 n.log n.term asks (asks + 1) items (omega arith) op (more_asked book more 0 n.log asks asks (omega arith) from)
 
-    sized : (b : Bool) → Makes (From (book ++ more) (asks + 1)) n (if b then says n (asks + 1) (EntryTooLarge (length (execute_bytes items))) else taken_up n (asks + 1) items)
-    sized true = says_makes (book ++ more) (asks + 1) n (asks + 1) (EntryTooLarge (length (execute_bytes items))) before
+    sized : (b : Bool) → Makes (From (book ++ more) (asks + 1)) n (if b then says n (asks + 1) (Refused (EntryTooLarge (length (execute_bytes items)))) else taken_up n (asks + 1) items)
+    sized true = says_makes (book ++ more) (asks + 1) n (asks + 1) (Refused (EntryTooLarge (length (execute_bytes items)))) before
     sized false = record { after = longer; safe = splice_kept (From (book ++ more) (asks + 1)) (persistent_of n) (record { term = n.term; content = content.Execute items } ∷ []) before longer }
 
-    at : (b : Bool) → Makes (From (book ++ more) (asks + 1)) n (if b then execute_sized n (asks + 1) items (length (execute_bytes items)) else says n (asks + 1) (NoLeader n.term))
+    at : (b : Bool) → Makes (From (book ++ more) (asks + 1)) n (if b then execute_sized n (asks + 1) items (length (execute_bytes items)) else says n (asks + 1) (Refused (NoLeader n.term)))
     at true = sized (nat_lt most_bytes (length (execute_bytes items)))
-    at false = says_makes (book ++ more) (asks + 1) n (asks + 1) (NoLeader n.term) before
+    at false = says_makes (book ++ more) (asks + 1) n (asks + 1) (Refused (NoLeader n.term)) before
 
 -- ---- lines
 

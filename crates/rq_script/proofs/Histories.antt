@@ -4,7 +4,7 @@ use Rattle.std.specs.Prelude.{⊤}
 use Rattle.std.proofs.lemmas.List.{append-nil, length-append}
 use Rattle.rq_statement.specs.declared.item.Item.{Item}
 use Rattle.rq_request.specs.declared.say.Say.{Say}
-use Rattle.rq_request.specs.declared.say.Say.TheVariants.{Results, NoLeader, EntryTooLarge}
+use Rattle.rq_request.specs.declared.say.Say.TheVariants.{Results, Queued, Loaded, Backup, Nodes, Ready, Changed, Moved, Refused}
 use Rattle.rq_request.specs.declared.say.Answer.{Answer}
 use Rattle.rq_engine.specs.Database.{Database}
 use Rattle.rq_engine.specs.Meaning.{executed, answers}
@@ -54,14 +54,18 @@ right_more old new (Some (Write items)) (Results results) place more right =
       is_list = right.is_list;
       outcome = right.outcome ∙ ap (λ (l : List LogEntry). (executed (replica l) items).1) (sym (begins_take_same old new (place - 1) more (omega (arith, within))));
     }
-right_more old new (Some (Write items)) (NoLeader term) place more right = tt
-right_more old new (Some (Write items)) (EntryTooLarge size) place more right = tt
 right_more old new (Some (Read items)) (Results results) place (r, is) (within, right) = (
   let counts : length new ≡ length old + length r = ap length (sym is) ∙ length-append old r in omega (arith, counts, within),
   right ∙ ap (λ (l : List LogEntry). answers (replica l) items) (sym (begins_take_same old new place (r, is) within)),
 )
-right_more old new (Some (Read items)) (NoLeader term) place more right = tt
-right_more old new (Some (Read items)) (EntryTooLarge size) place more right = tt
+right_more old new (Some op) (Refused refusal) place more right = tt
+right_more old new (Some op) (Queued number) place more nothing = absurd nothing
+right_more old new (Some op) Loaded place more nothing = absurd nothing
+right_more old new (Some op) (Backup sql) place more nothing = absurd nothing
+right_more old new (Some op) (Nodes members) place more nothing = absurd nothing
+right_more old new (Some op) Ready place more nothing = absurd nothing
+right_more old new (Some op) Changed place more nothing = absurd nothing
+right_more old new (Some op) (Moved address) place more nothing = absurd nothing
 
 pub all_chosen : (old new : List LogEntry) (book notes : List Note) → Begins old new → AllRight old book notes → AllRight new book notes
 all_chosen old new book [] grows all = tt

@@ -5,7 +5,8 @@ use Rattle.std.specs.Option.{option_map}
 use Rattle.std.proofs.lemmas.List.{length-append, take_all}
 use Rattle.rq_statement.specs.declared.item.Item.{Item}
 use Rattle.rq_request.specs.declared.say.Say.{Say}
-use Rattle.rq_request.specs.declared.say.Say.TheVariants.{Results, NoLeader, EntryTooLarge}
+use Rattle.rq_request.specs.declared.say.Say.TheVariants.{Results, Refused}
+use Rattle.rq_request.specs.declared.say.NodeRefusal.TheVariants.{NoLeader, EntryTooLarge}
 use Rattle.rq_engine.specs.Meaning.{answers}
 use Rattle.rq_engine.specs.Command.{execute_bytes}
 use Rattle.rq_json.specs.Body.{texts_of}
@@ -345,13 +346,13 @@ module _ (h : History) (asks : ℕ) (right : AllRight h.chosen h.book h.book) (f
 execute_asks : (chosen : List LogEntry) (n : Node) (number : ℕ) (items : List Item) → Ask chosen n number (Write items) (execute n number items)
 execute_asks chosen n number items = at (is_leader n.role)
   where
-    sized : (b : Bool) → Ask chosen n number (Write items) (if b then says n number (EntryTooLarge (length (execute_bytes items))) else taken_up n number items)
-    sized true = says_now (EntryTooLarge (length (execute_bytes items))) refl tt
+    sized : (b : Bool) → Ask chosen n number (Write items) (if b then says n number (Refused (EntryTooLarge (length (execute_bytes items)))) else taken_up n number items)
+    sized true = says_now (Refused (EntryTooLarge (length (execute_bytes items)))) refl tt
     sized false = takes items refl refl
 
-    at : (b : Bool) → Ask chosen n number (Write items) (if b then execute_sized n number items (length (execute_bytes items)) else says n number (NoLeader n.term))
+    at : (b : Bool) → Ask chosen n number (Write items) (if b then execute_sized n number items (length (execute_bytes items)) else says n number (Refused (NoLeader n.term)))
     at true = sized (nat_lt most_bytes (length (execute_bytes items)))
-    at false = says_now (NoLeader n.term) refl tt
+    at false = says_now (Refused (NoLeader n.term)) refl tt
 
 query_asks : (chosen : List LogEntry) (book : List Note) (n : Node) (number : ℕ) (items : List Item) → Stands chosen book n → n.commit ≤ length chosen
     → Ask chosen n number (Read items) (query n number items)

@@ -6,7 +6,8 @@ use Rattle.std.proofs.lemmas.List.{append-nil}
 use Rattle.rq_statement.specs.declared.item.Item.{Item}
 use Rattle.rq_statement.specs.declared.res.Res.{Res}
 use Rattle.rq_request.specs.declared.say.Say.{Say}
-use Rattle.rq_request.specs.declared.say.Say.TheVariants.{Results, NoLeader, EntryTooLarge}
+use Rattle.rq_request.specs.declared.say.Say.TheVariants.{Results, Refused}
+use Rattle.rq_request.specs.declared.say.NodeRefusal.TheVariants.{NoLeader, EntryTooLarge}
 use Rattle.rq_engine.specs.Meaning.{executed, answers}
 use Rattle.rq_engine.specs.Command.{execute_bytes}
 use Rattle.rq_json.specs.Body.{texts_of}
@@ -111,13 +112,13 @@ data AskTurn (n : Node) (number : ℕ) (turn : Turn) : Type 0 where
 execute_turn : (n : Node) (number : ℕ) (items : List Item) → AskTurn n number (execute n number items)
 execute_turn n number items = at (is_leader n.role)
   where
-    sized : (b : Bool) → AskTurn n number (if b then says n number (EntryTooLarge (length (execute_bytes items))) else taken_up n number items)
-    sized true = says_now (EntryTooLarge (length (execute_bytes items))) refl
+    sized : (b : Bool) → AskTurn n number (if b then says n number (Refused (EntryTooLarge (length (execute_bytes items)))) else taken_up n number items)
+    sized true = says_now (Refused (EntryTooLarge (length (execute_bytes items)))) refl
     sized false = takes items refl
 
-    at : (b : Bool) → AskTurn n number (if b then execute_sized n number items (length (execute_bytes items)) else says n number (NoLeader n.term))
+    at : (b : Bool) → AskTurn n number (if b then execute_sized n number items (length (execute_bytes items)) else says n number (Refused (NoLeader n.term)))
     at true = sized (nat_lt most_bytes (length (execute_bytes items)))
-    at false = says_now (NoLeader n.term) refl
+    at false = says_now (Refused (NoLeader n.term)) refl
 
 taken_ends : (f : Fate) (course : Course) (s : Server) (n : Node) (number : ℕ) (items : List Item)
     → Opens ((s.lost ++ numbers n.waiting) ++ number ∷ []) (said_by f (taken_up n number items) n.applied) (unanswered (Some (ended f course s n (taken_up n number items) (number ∷ [])).0))

@@ -6,7 +6,8 @@ use Rattle.std.proofs.lemmas.List.{length-append}
 use Rattle.rq_statement.specs.declared.item.Item.{Item}
 use Rattle.rq_statement.specs.declared.res.Res.{Res}
 use Rattle.rq_request.specs.declared.say.Say.{Say}
-use Rattle.rq_request.specs.declared.say.Say.TheVariants.{Results, NoLeader, EntryTooLarge}
+use Rattle.rq_request.specs.declared.say.Say.TheVariants.{Results, Queued, Loaded, Backup, Nodes, Ready, Changed, Moved, Refused}
+use Rattle.rq_request.specs.declared.say.NodeRefusal.TheVariants.{NoLeader, EntryTooLarge}
 use Rattle.rq_engine.specs.Meaning.{executed, answers}
 use Rattle.rq_engine.specs.Command.{execute_bytes}
 use Rattle.rq_json.specs.Body.{texts_of}
@@ -36,8 +37,14 @@ is_write (Some (Read items)) = false
 -- the results of a write
 abbrev pub counts : Option Op → Say → Bool
 counts op (Results results) = is_write op
-counts op (NoLeader term) = false
-counts op (EntryTooLarge size) = false
+counts op (Queued number) = false
+counts op Loaded = false
+counts op (Backup sql) = false
+counts op (Nodes members) = false
+counts op Ready = false
+counts op Changed = false
+counts op (Moved address) = false
+counts op (Refused refusal) = false
 
 -- the rest climbs from a place that is above, or from where it was
 abbrev pub Behind : (ℕ → Type 0) → ℕ → ℕ → Bool → Type 0
@@ -308,13 +315,13 @@ module _ (h : History) (low : ℕ) (within : low ≤ length h.chosen) where
   execute_climbs : (course : Course) (s : Server) (n : Node) (number : ℕ) (items : List Item) → Rises low n.waiting (length n.log) → Asks course s n number (Write items) (execute n number items)
   execute_climbs course s n number items rises = at (is_leader n.role)
     where
-      sized : (b : Bool) → Asks course s n number (Write items) (if b then says n number (EntryTooLarge (length (execute_bytes items))) else taken_up n number items)
-      sized true = says_climbs course s n number (Write items) (EntryTooLarge (length (execute_bytes items))) refl rises
+      sized : (b : Bool) → Asks course s n number (Write items) (if b then says n number (Refused (EntryTooLarge (length (execute_bytes items)))) else taken_up n number items)
+      sized true = says_climbs course s n number (Write items) (Refused (EntryTooLarge (length (execute_bytes items)))) refl rises
       sized false = taken_climbs course s n number (Write items) items rises
 
-      at : (b : Bool) → Asks course s n number (Write items) (if b then execute_sized n number items (length (execute_bytes items)) else says n number (NoLeader n.term))
+      at : (b : Bool) → Asks course s n number (Write items) (if b then execute_sized n number items (length (execute_bytes items)) else says n number (Refused (NoLeader n.term)))
       at true = sized (nat_lt most_bytes (length (execute_bytes items)))
-      at false = says_climbs course s n number (Write items) (NoLeader n.term) refl rises
+      at false = says_climbs course s n number (Write items) (Refused (NoLeader n.term)) refl rises
 
   query_climbs : (course : Course) (s : Server) (n : Node) (number : ℕ) (items : List Item) → op_of h.book number ≡ None → Rises low n.waiting (length n.log)
       → Asks course s n number (Read items) (query n number items)

@@ -3,7 +3,7 @@ use Rattle.std.specs.Prelude.{◌≡◌, ◌≤◌, ◌-◌, if◌then◌else◌
 use Rattle.rq_statement.specs.declared.item.Item.{Item}
 use Rattle.rq_statement.specs.declared.res.Res.{Res}
 use Rattle.rq_request.specs.declared.say.Say.{Say}
-use Rattle.rq_request.specs.declared.say.Say.TheVariants.{Results, NoLeader, EntryTooLarge}
+use Rattle.rq_request.specs.declared.say.Say.TheVariants.{Results, Queued, Loaded, Backup, Nodes, Ready, Changed, Moved, Refused}
 use Rattle.rq_engine.specs.Database.{Database}
 use Rattle.rq_engine.specs.Meaning.{executed, answers}
 use Rattle.rq_node.specs.declared.log_entry.LogEntry.{LogEntry}
@@ -45,12 +45,22 @@ pub record IsOutcome (log : List LogEntry) (index : ℕ) (items : List Item) (re
   pub outcome : results ≡ (executed (replica (take (index - 1) log)) items).1
 
 -- results of a write are those of its entry; results of a read are those of its queries on the fold of the log's prefix of this length
+abbrev pub AreRight : List LogEntry → Op → List Res → ℕ → Type 0
+AreRight chosen (Write items) results place = IsOutcome chosen place items results
+AreRight chosen (Read items) results place = (place ≤ length chosen) × (results ≡ answers (replica (take place chosen)) items)
+
+-- an answer is right: results are, a refusal says nothing of a database, and nothing else is said yet
 abbrev pub IsRight : List LogEntry → Option Op → Say → ℕ → Type 0
-IsRight chosen (Some (Write items)) (Results results) place = IsOutcome chosen place items results
-IsRight chosen (Some (Read items)) (Results results) place = (place ≤ length chosen) × (results ≡ answers (replica (take place chosen)) items)
-IsRight chosen (Some op) (NoLeader term) place = ⊤
-IsRight chosen (Some op) (EntryTooLarge size) place = ⊤
 IsRight chosen None say place = ⊥
+IsRight chosen (Some op) (Results results) place = AreRight chosen op results place
+IsRight chosen (Some op) (Refused refusal) place = ⊤
+IsRight chosen (Some op) (Queued number) place = ⊥
+IsRight chosen (Some op) Loaded place = ⊥
+IsRight chosen (Some op) (Backup sql) place = ⊥
+IsRight chosen (Some op) (Nodes members) place = ⊥
+IsRight chosen (Some op) Ready place = ⊥
+IsRight chosen (Some op) Changed place = ⊥
+IsRight chosen (Some op) (Moved address) place = ⊥
 
 -- a node's database is the fold of the applied prefix of its log, which is a prefix of the chosen log
 pub record IsReplica (chosen : List LogEntry) (n : Node) : Type 0 where

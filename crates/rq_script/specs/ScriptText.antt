@@ -1,11 +1,12 @@
 -- What a script writes, as docs/SCRIPT.md, "Output", has it.
-use Rattle.std.specs.Prelude.{ℕ, List, ◌++◌, flat_map, length, codes, decimal}
+use Rattle.std.specs.Prelude.{ℕ, false, List, ◌++◌, flat_map, length, codes, decimal}
 use Rattle.rq_request.specs.declared.say.Answer.{Answer}
 use Rattle.rq_node.specs.Node.{Node}
 use Rattle.rq_node.specs.declared.role.Role.{Role}
 use Rattle.rq_node.specs.declared.role.Role.TheVariants.{Follower, Candidate, Leader}
 use Rattle.rq_request.specs.Say.{status_of}
-use Rattle.rq_json.specs.Reply.{body_of}
+use Rattle.rq_request.specs.declared.shape.Shape.{Shape}
+use Rattle.rq_replies.specs.Reply.{body_of}
 
 -- up ID boot B term T last L
 abbrev pub up_text : Node → List ℕ
@@ -15,9 +16,13 @@ up_text n = codes "up " ++ n.id ++ codes " boot " ++ decimal n.boot ++ codes " t
 abbrev pub down_text : List ℕ → List ℕ
 down_text id = codes "down " ++ id ++ codes "\n"
 
+-- lists, without blanks
+abbrev pub plain : Shape
+plain = record { associative = false; pretty = false }
+
 -- answer K S BODY
 abbrev pub answer_text : Answer → List ℕ
-answer_text answer = codes "answer " ++ decimal answer.number ++ codes " " ++ decimal (status_of answer.say) ++ codes " " ++ body_of answer.say ++ codes "\n"
+answer_text answer = codes "answer " ++ decimal answer.number ++ codes " " ++ decimal (status_of answer.say) ++ codes " " ++ body_of plain answer.say ++ codes "\n"
 
 abbrev pub answers_text : List Answer → List ℕ
 answers_text answers = flat_map answer_text answers

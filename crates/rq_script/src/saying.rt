@@ -2,11 +2,17 @@
 ghost use Rattle.std.specs.Prelude.{◌≡◌, ◌++◌, codes, decimal, length, flat_map, OnOk};
 ghost use Rattle.rq_script.specs.ScriptText.{up_text, down_text, answer_text, answers_text, pending_text, role_text, show_text, show_down_text};
 
-use rq_json::write_body;
 use rq_node::{Role, State};
-use rq_request::{Answer, Say};
+use rq_replies::reply;
+use rq_request::{Answer, Say, Shape};
 use rq_values::{Id, NoMemory};
 use std::alloc::Global;
+
+/// The form of a reply in a script.
+const PLAIN: Shape = Shape {
+    associative: false,
+    pretty: false,
+};
 
 /// Appends words and a number.
 fn write_number(alloc: Global, words: &str, number: u64, text: &mut Vec<u8>) -> Result<(), NoMemory>
@@ -105,7 +111,7 @@ pub fn write_answer(
     write_number(alloc, "answer ", number, text)?;
     write_number(alloc, " ", u64::from(say.status()), text)?;
     text.push(b' ')?;
-    write_body(alloc, say, text)?;
+    reply(alloc, say, PLAIN, text)?;
     text.push(b'\n')?;
     Ok(())
 }

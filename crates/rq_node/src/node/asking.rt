@@ -20,7 +20,7 @@ use crate::turn_error::TurnError;
 use crate::waiting::Waiting;
 use rq_engine::encode_execute;
 use rq_outside::{Disk, DiskPair};
-use rq_request::Say;
+use rq_request::{NodeRefusal, Say};
 use rq_statement::Item;
 use rq_values::{Bytes, NoMemory, Seq};
 use rq_wire::Body;
@@ -80,11 +80,12 @@ impl Node {
     {
         let term = self.state.term;
         if self.state.role != Role::Leader {
-            return Ok(Some(Say::NoLeader { term }));
+            return Ok(Some(Say::Refused(NodeRefusal::NoLeader { term })));
         }
         let command = command_of(alloc, &items)?;
         if command.len() > MOST_BYTES {
-            return Ok(Some(Say::EntryTooLarge(command.len() as u64)));
+            let refusal = NodeRefusal::EntryTooLarge(command.len() as u64);
+            return Ok(Some(Say::Refused(refusal)));
         }
         self.append(alloc, disks, number, items, Bytes::from_vec(command))?;
         Ok(None)

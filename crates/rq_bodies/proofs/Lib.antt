@@ -1,0 +1,2 @@
+pub mod BodyItems
+pub mod JsonBodies

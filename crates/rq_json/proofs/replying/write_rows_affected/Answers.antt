@@ -1,5 +1,0 @@
-use Rattle.std.proofs.lemmas.Bool.{ne_eqb}
-use Rattle.rq_json.proofs.replying.write_rows_affected.Goals as goal
-
-pub returns : goal.returns
-returns c = simp (ne_eqb c.args.rows 0 c.if-rows-eq0.false) c.write_count.ensures

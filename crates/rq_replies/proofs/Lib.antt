@@ -1,0 +1,4 @@
+pub mod AddsMore
+pub mod Ascii
+pub mod InOrder
+pub mod ReplyMembers

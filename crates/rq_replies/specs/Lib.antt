@@ -1,0 +1,3 @@
+pub mod Order
+pub mod Output
+pub mod Reply
