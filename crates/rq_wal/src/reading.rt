@@ -140,23 +140,25 @@ fn append(more: Vec<Entry>, entries: &mut Vec<Entry>) -> Result<(), NoMemory>
 }
 
 /// What is stored after one frame more.
-fn apply(stored: Stored, frame: Frame) -> Result<Stored, NoMemory>
+fn apply(alloc: Global, stored: Stored, frame: Frame) -> Result<Stored, NoMemory>
     ensures { IfOk result (λ after. after ≡ applied stored frame) }
 {
     let mut stored = stored;
-    match frame {
+    let mut frame = frame;
+    match &mut frame {
         Frame::Vote { term, vote } => {
-            stored.term = term;
-            stored.vote = vote;
+            stored.term = *term;
+            stored.vote = *vote;
         }
         Frame::Splice { from, entries } => {
             let kept = from.saturating_sub(stored.base.index).saturating_sub(1);
+            let more = std::mem::replace(entries, Seq::new(alloc));
             let mut all = stored.entries.into_vec();
             all.truncate(kept as usize);
-            append(entries.into_vec(), &mut all)?;
+            append(more.into_vec(), &mut all)?;
             stored.entries = Seq::from_vec(all);
         }
-        Frame::Boot { boot } => stored.boot = boot,
+        Frame::Boot { boot } => stored.boot = *boot,
     }
     Ok(stored)
 }
@@ -184,7 +186,7 @@ fn next_frames(alloc: Global, first: Stored, bytes: &[u8]) -> Result<(Stored, &[
             return Ok((stored, rest));
         }
         let (frame, after) = next_frame(alloc, &stored, behind)?;
-        stored = apply(stored, frame)?;
+        stored = apply(alloc, stored, frame)?;
         rest = after;
     }
 }
