@@ -45,10 +45,15 @@ pub struct State {
 }
 
 impl Model for State {
+    ghost use Rattle.std.specs.Coded.{codes};
+    ghost use Rattle.rq_grammar.specs.contracts.expr.Expr as expr;
+    ghost use Rattle.rq_grammar.specs.contracts.stmt.Stmt as stmt;
     ghost use Rattle.rq_node.specs.Node.{Node};
     ghost use Rattle.rq_node.specs.Sound.{IsSound};
 
     ghost Value = { Node };
+
+    ghost coded = { Prim.hlevel (codes, expr.the_row.coded, stmt.the_row.coded) };
 
     ghost view = { λ s. record {
       id = s.id;

@@ -69,7 +69,7 @@ fn answer_first(
     ensures waiting { OnOk result (waiting.new.items ≡ left_waiting index waiting.old.items) }
     ensures answers { OnOk result (answers.new ≡ answers.old ++ answered index results waiting.old.items) }
 {
-    match waiting.prefix() {
+    match waiting.front() {
         Some(first) if first.index == index => {}
         _ => return Ok(()),
     }

@@ -251,6 +251,7 @@ fn no_command(index: u64, error: DecodeError) -> NodeError
 }
 
 /// The base of a new node: an empty log, and itself as the one voter.
+#[tactic(auto, unfolding(rq_wire::specs::Config::ids_rise))]
 fn first_base(alloc: Global, id: Id) -> Result<Base, NoMemory>
     ensures { IfOk result (λ base. base ≡ first_base id) }
 {
