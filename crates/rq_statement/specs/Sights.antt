@@ -1,5 +1,5 @@
 -- What is seen of an expression: whether it has a parameter, a random node or a time node. docs/SQL.md, "Settled statements".
-use Rattle.std.specs.Prelude.{ℕ, zero, suc, Bool, true, false, ◌&&◌, ◌||◌, not, if◌then◌else◌, List, [], ◌∷◌, length, map, codes, bytes_eq}
+use Rattle.std.specs.Prelude.{ℕ, zero, suc, Bool, true, false, ◌&&◌, ◌||◌, if◌then◌else◌, List, [], ◌∷◌, length, map, codes, bytes_eq}
 use Rattle.std.specs.Char.{to_ascii_lowercase}
 use Rattle.rq_values.specs.declared.value.Value.{Value}
 use Rattle.rq_values.specs.declared.value.Value.TheVariants as v

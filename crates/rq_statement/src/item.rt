@@ -1,4 +1,5 @@
 //! An item of a request's list.
+ghost use Rattle.std.specs.Prelude.{All};
 ghost use Rattle.rq_statement.specs.Items as spec;
 
 use crate::settled::Settled;
@@ -59,5 +60,14 @@ pub fn know_item(item: &Item)
         Item::Fail(text) => {
             let _bytes = text.bytes();
         }
+    }
+}
+
+/// The same of each of the items.
+pub fn know_items(items: &[Item])
+    ensures { All spec.IsItem items.now }
+{
+    for item in items {
+        know_item(item);
     }
 }
