@@ -1,15 +1,14 @@
 -- What the tables take after a change.
-use Rattle.std.proofs.Common.{◌≡◌, ℕ, ℤ, ◌+◌, ◌≤◌, Bool, true, false, cond, List, [], ◌∷◌, Option, Some, None, refl, sym, ap, ◌∙◌, arith}
+use Rattle.std.proofs.Common.{◌≡◌, ℕ, ◌+◌, cond, List, [], ◌∷◌, Some, None, refl, arith}
 use Rattle.std.specs.List.{sum_by}
-use Rattle.std.specs.Map.{lookup, set_value, values_of}
+use Rattle.std.specs.Map.{lookup, values_of}
 use Rattle.std.specs.BTreeMap.{insert_entry, is_at}
 use Rattle.std.specs.Ordering.{int_cmp, is_eq, match_ordering}
 use Rattle.std.specs.declared.cmp.Ordering.{Ordering}
 use Rattle.std.specs.declared.cmp.Ordering.TheVariants.{Less, Equal, Greater}
 use Rattle.std.proofs.lemmas.List.Sums.{sum_by-cons}
 use Rattle.std.proofs.lemmas.Map.Entries.{sum_by-set_value}
-use Rattle.rq_values.specs.declared.value.Value.{Value}
-use Rattle.rq_engine.specs.Database.{lower, name_cmp, Row, Table, Database, with_table, with_changed, row_size, table_size, empty_size, tables_size}
+use Rattle.rq_engine.specs.Database.{lower, name_cmp, Row, Table, Database, with_table, with_changed, row_size, table_size, tables_size}
 use Rattle.rq_engine.specs.Meaning.{with_row}
 
 -- an entry more

@@ -1,5 +1,5 @@
 -- What statements make of a database, case by case.
-use Rattle.std.proofs.Common.{◌≡◌, ℕ, ℤ, pos, ◌+◌, ◌<◌, ◌≤◌, Bool, true, false, cond, List, [], ◌∷◌, length, Option, Some, None, Result, Ok, Err, refl, sym, ap, subst, ◌∙◌, arith}
+use Rattle.std.proofs.Common.{◌≡◌, ℕ, ℤ, pos, ◌+◌, ◌<◌, ◌≤◌, Bool, true, false, List, [], length, Option, Some, None, Ok, Err, refl, sym, ap, subst, ◌∙◌, arith}
 use Rattle.std.specs.Prelude.{is_some, if◌then◌else◌, option_and_then, option_map, nat_le, ◌==◌}
 use Rattle.std.specs.Map.{lookup}
 use Rattle.std.specs.BTreeMap.{is_at}
@@ -10,8 +10,8 @@ use Rattle.rq_grammar.specs.declared.stmt.ColumnDef.{ColumnDef}
 use Rattle.rq_engine.specs.declared.inserting.Target.{Target}
 use Rattle.rq_statement.specs.declared.res.Res.{Res}
 use Rattle.rq_statement.specs.declared.res.Res.TheVariants as res
-use Rattle.rq_engine.specs.Database.{lower, name_cmp, Row, Table, Database, table_of, with_table, with_changed, row_size, table_size, empty_size, tables_size, size_limit}
-use Rattle.rq_engine.specs.Meaning.{Outcome, not_built, no_such_table, already_exists, then_with, needed, has_row, cells, row_at, row_of, new_row, targets_of, within_limit, with_row, inserted, created, is_refused}
+use Rattle.rq_engine.specs.Database.{Row, Table, Database, table_of, with_table, with_changed, row_size, empty_size, tables_size, size_limit}
+use Rattle.rq_engine.specs.Meaning.{Fallible, not_built, no_such_table, already_exists, then_with, needed, has_row, cells, row_at, row_of, new_row, targets_of, within_limit, with_row, inserted, created, is_refused}
 use Rattle.rq_engine.specs.Running.{Gives}
 use Rattle.rq_engine.specs.declared.refusal.Refusal.{Refusal}
 use Rattle.rq_engine.specs.declared.refusal.Refusal.TheVariants as refusal
@@ -88,7 +88,7 @@ inserted_size db name names vs t r there new = size-with_changed name t r db the
 abbrev empty_table : List ℕ → List ColumnDef → Table
 empty_table name cs = record { name = name; columns = cs; rows = [] }
 
-abbrev rest : Database → List ℕ → List ColumnDef → Bool → Bool → Outcome (Database × Res)
+abbrev rest : Database → List ℕ → List ColumnDef → Bool → Bool → Fallible (Database × Res)
 rest db name cs there refused =
     if there then Err (already_exists name)
     else if refused then Err not_built
@@ -114,5 +114,5 @@ created_is db name cs none allowed within = created_new db name cs none allowed 
 
 -- ---- failures
 
-pub gives_error : (o : Outcome (Database × Res)) (db : Database) (e : List ℕ) (r : Refusal) → o ≡ Err e → r ≡ refusal.Says e → Gives o db db (Err r)
+pub gives_error : (o : Fallible (Database × Res)) (db : Database) (e : List ℕ) (r : Refusal) → o ≡ Err e → r ≡ refusal.Says e → Gives o db db (Err r)
 gives_error o db e r is says = subst (λ (q : Refusal). Gives o db db (Err q)) (sym says) (is, refl)

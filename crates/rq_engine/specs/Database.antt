@@ -1,6 +1,6 @@
 -- Database: tables by name, and how long their spelling is.
 -- Source: SQLite's documentation, "CREATE TABLE", section "ROWIDs and the INTEGER PRIMARY KEY".
-use Rattle.std.specs.Prelude.{ℕ, ◌+◌, ◌^◌, ◌-◌, ℤ, Bool, true, false, ◌&&◌, if◌then◌else◌, List, [], ◌∷◌, length, map, bytes_eq, Option}
+use Rattle.std.specs.Prelude.{ℕ, ◌+◌, ℤ, Bool, true, false, ◌&&◌, if◌then◌else◌, List, [], ◌∷◌, length, map, bytes_eq, Option}
 use Rattle.std.specs.Char.{to_ascii_lowercase}
 use Rattle.std.specs.List.{sum_by}
 use Rattle.std.specs.Map.{lookup, set_value, values_of}

@@ -1,4 +1,6 @@
 pub mod Command
 pub mod Database
+pub mod Fold
+pub mod Lists
 pub mod Meaning
 pub mod Running

@@ -1,7 +1,7 @@
 -- Meaning: what a statement makes of a database, and what it answers.
 -- Source: SQLite's documentation, "CREATE TABLE", "INSERT", "SELECT", "Datatypes In SQLite"; strict kinds as in its "STRICT Tables".
 pub use Rattle.std.specs.Fmt.{signed_decimal}
-use Rattle.std.specs.Prelude.{ℕ, ◌≡◌, ◌+◌, ◌-◌, ◌*◌, ◌^◌, ◌==◌, ℤ, int_lt, pos, negsuc, ◌+ℤ◌, Bool, true, false, not, ◌&&◌, ◌||◌, if◌then◌else◌, nat_lt, nat_le, List, [], ◌∷◌, ◌++◌, length, map, codes, bytes_eq, slice_get, take, Option, Some, None, is_some, is_none, unwrap_or, Result, Ok, Err}
+use Rattle.std.specs.Prelude.{ℕ, ◌+◌, ◌-◌, ◌^◌, ◌==◌, ℤ, int_lt, pos, negsuc, ◌+ℤ◌, Bool, true, false, not, ◌&&◌, ◌||◌, if◌then◌else◌, nat_lt, nat_le, List, [], ◌∷◌, ◌++◌, length, map, codes, bytes_eq, slice_get, take, Option, Some, None, is_some, is_none, unwrap_or, Result, Ok, Err}
 use Rattle.std.specs.Option.{option_map, option_and_then, option_map_or}
 use Rattle.std.specs.List.{list_any, count_by}
 use Rattle.std.specs.Map.{lookup, values_of}
@@ -10,7 +10,6 @@ use Rattle.std.specs.Ordering.{int_cmp}
 use Rattle.std.specs.Str.Parse.{signed_digits_value}
 use Rattle.rq_values.specs.declared.value.Value.{Value}
 use Rattle.rq_values.specs.declared.value.Value.TheVariants as value
-use Rattle.rq_values.specs.declared.memory.NoMemory.{NoMemory}
 use Rattle.rq_grammar.specs.declared.stmt.ColumnKind.{ColumnKind}
 use Rattle.rq_grammar.specs.declared.stmt.ColumnKind.TheVariants as kind
 use Rattle.rq_grammar.specs.declared.stmt.ColumnDef.{ColumnDef}
@@ -29,13 +28,13 @@ use Rattle.rq_statement.specs.declared.res.Res.{Res}
 use Rattle.rq_statement.specs.declared.res.Res.TheVariants as res
 use Rattle.rq_engine.specs.declared.inserting.Target.{Target}
 use Rattle.rq_engine.specs.declared.inserting.Target.TheVariants as target
-use Rattle.rq_engine.specs.Database.{lower, is_same_name, Row, Table, Database, table_of, with_table, with_changed, is_integer, is_rowid, tables_size, size_limit}
+use Rattle.rq_engine.specs.Database.{lower, is_same_name, Row, Table, Database, table_of, with_table, with_changed, is_rowid, tables_size, size_limit}
 
 -- ---- errors
 
 -- a result, or the text of the error
-abbrev pub Outcome : Type 0 → Type 0
-Outcome A = Result A (List ℕ)
+abbrev pub Fallible : Type 0 → Type 0
+Fallible A = Result A (List ℕ)
 
 abbrev pub not_built : List ℕ
 not_built = codes "not built"
@@ -46,12 +45,12 @@ no_such_table name = codes "no such table: " ++ name
 abbrev pub already_exists : List ℕ → List ℕ
 already_exists name = codes "table " ++ name ++ codes " already exists"
 
-abbrev pub then_with : {A B : Type 0} → Outcome A → (A → Outcome B) → Outcome B
+abbrev pub then_with : {A B : Type 0} → Fallible A → (A → Fallible B) → Fallible B
 then_with (Err e) next = Err e
 then_with (Ok x) next = next x
 
 -- what is there, or an error
-abbrev pub needed : {A : Type 0} → List ℕ → Option A → Outcome A
+abbrev pub needed : {A : Type 0} → List ℕ → Option A → Fallible A
 needed e None = Err e
 needed e (Some x) = Ok x
 
@@ -195,13 +194,13 @@ new_row t names vs = if length names == length vs then option_and_then (row_of t
 -- ---- statements
 
 -- the tables may not take more than the limit
-abbrev pub within_limit : Database × Res → Outcome (Database × Res)
+abbrev pub within_limit : Database × Res → Fallible (Database × Res)
 within_limit (db, answer) = if nat_le (tables_size db) size_limit then Ok (db, answer) else Err not_built
 
 abbrev pub with_row : Table → Row → Table
 with_row t r = record t { rows = insert_entry int_cmp t.rows r.0 r.1 }
 
-abbrev pub inserted : Database → List ℕ → List (List ℕ) → List Value → Outcome (Database × Res)
+abbrev pub inserted : Database → List ℕ → List (List ℕ) → List Value → Fallible (Database × Res)
 inserted db name names vs =
     then_with (needed (no_such_table name) (table_of name db)) (λ t.
     then_with (needed not_built (new_row t names vs)) (λ r.
@@ -227,7 +226,7 @@ is_reserved name = bytes_eq (lower (take 7 name)) (codes "sqlite_")
 abbrev pub is_refused : List ℕ → List ColumnDef → Bool
 is_refused name cs = (length cs == 0) || is_reserved name || has_twice cs || has_two_keys cs
 
-abbrev pub created : Database → List ℕ → List ColumnDef → Outcome (Database × Res)
+abbrev pub created : Database → List ℕ → List ColumnDef → Fallible (Database × Res)
 created db name cs =
     if is_some (table_of name db) then Err (already_exists name)
     else if is_refused name cs then Err not_built
@@ -246,7 +245,7 @@ type_text c = kind_name c.kind
 abbrev pub rows_of : Table → Res
 rows_of t = res.Rows (map (λ (c : ColumnDef). c.name) t.columns) (map type_text t.columns) (values_of t.rows)
 
-abbrev pub selected : Database → List ℕ → Outcome Res
+abbrev pub selected : Database → List ℕ → Fallible Res
 selected db name = then_with (needed (no_such_table name) (table_of name db)) (λ t. Ok (rows_of t))
 
 -- ---- items, and lists of them
@@ -296,35 +295,35 @@ is_bare q = is_none q.filter && ((length q.order == 0) && (is_none q.limit && is
 abbrev pub whole_table : SelectStmt → Option (List ℕ)
 whole_table q = if is_all q.results && is_bare q then q.table else None
 
-abbrev pub created_as : Database → Bool → List ℕ → List ColumnDef → Outcome (Database × Res)
+abbrev pub created_as : Database → Bool → List ℕ → List ColumnDef → Fallible (Database × Res)
 created_as db if_not_exists name cs = if if_not_exists || has_unbuilt cs then Err not_built else created db name cs
 
-abbrev pub inserted_rows : Database → List ℕ → List (List ℕ) → InsertRows → Outcome (Database × Res)
+abbrev pub inserted_rows : Database → List ℕ → List (List ℕ) → InsertRows → Fallible (Database × Res)
 inserted_rows db name names rs = then_with (needed not_built (values_in rs)) (inserted db name names)
 
-abbrev pub selected_all : Database → SelectStmt → Outcome Res
+abbrev pub selected_all : Database → SelectStmt → Fallible Res
 selected_all db q = then_with (needed not_built (whole_table q)) (selected db)
 
-abbrev pub run : Database → Stmt → Outcome (Database × Res)
-run db (stmt.Create b name cs) = created_as db b name cs
-run db (stmt.Insert name (Some names) rs) = inserted_rows db name names rs
-run db _ = Err not_built
+abbrev pub outcome_of : Database → Stmt → Fallible (Database × Res)
+outcome_of db (stmt.Create b name cs) = created_as db b name cs
+outcome_of db (stmt.Insert name (Some names) rs) = inserted_rows db name names rs
+outcome_of db _ = Err not_built
 
 -- a statement that fails changes nothing
-abbrev pub settled : Database → Outcome (Database × Res) → Database × Res
+abbrev pub settled : Database → Fallible (Database × Res) → Database × Res
 settled db (Ok p) = p
 settled db (Err e) = (db, res.Error e)
 
 -- an item of a list that is executed
 abbrev pub means : Database → Item → Database × Res
-means db (Run s) = settled db (run db s)
+means db (Run s) = settled db (outcome_of db s)
 means db (Fail e) = (db, res.Error e)
 
-abbrev pub read : Database → Stmt → Outcome Res
+abbrev pub read : Database → Stmt → Fallible Res
 read db (stmt.Select q) = selected_all db q
 read db _ = Err not_built
 
-abbrev pub as_res : Outcome Res → Res
+abbrev pub as_res : Fallible Res → Res
 as_res (Ok r) = r
 as_res (Err e) = res.Error e
 
@@ -334,9 +333,12 @@ answer_of db (Run s) = as_res (read db s)
 answer_of db (Fail e) = res.Error e
 
 -- the database that a list leaves, and what its items answer, each item by itself
+abbrev pub each : (Database → Item → Database × Res) → Database → List Item → Database × List Res
+each step db [] = (db, [])
+each step db (i ∷ is) = let p = step db i in let q = each step p.0 is in (q.0, p.1 ∷ q.1)
+
 abbrev pub executed : Database → List Item → Database × List Res
-executed db [] = (db, [])
-executed db (i ∷ is) = let p = means db i in let q = executed p.0 is in (q.0, p.1 ∷ q.1)
+executed db is = each means db is
 
 abbrev pub answers : Database → List Item → List Res
 answers db is = map (answer_of db) is

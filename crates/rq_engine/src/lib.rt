@@ -1,18 +1,21 @@
-//! The engine: the commands of the log, what a statement means, and the tables of a replica.
+//! The engine: what a statement means, and the tables of a replica.
 //!
 //! docs/SQL.md, "Statements that run today", has the rules.
 #![tactic(auto)]
 
-mod command;
 mod creating;
 mod inserting;
 mod messages;
+mod outcome;
 mod refusal;
+mod replica;
 mod sizes;
 mod table;
 mod table_key;
 mod tables;
 mod valuing;
 
-pub use command::encode_execute;
+pub use outcome::Outcome;
+pub use replica::Replica;
+pub use rq_statement::encode_execute;
 pub use tables::Tables;

@@ -1,5 +1,5 @@
 //! The tables of a database, and the statements over them.
-ghost use Rattle.std.specs.Prelude.{◌≡◌, [], Some, IfOk, OnOk, OnErr};
+ghost use Rattle.std.specs.Prelude.{◌≡◌, [], ◌++◌, Some, IfOk, OnOk, OnErr};
 ghost use Rattle.std.specs.Map.{lookup, set_value};
 ghost use Rattle.std.specs.BTreeMap.{is_at, insert_entry};
 ghost use Rattle.rq_engine.specs.Meaning as spec;
@@ -108,6 +108,26 @@ fn empty_table(alloc: Global, name: &Text, columns: &Items<ColumnDef>) -> Result
     }
 }
 
+/// Puts a table without rows in at its key. With no memory the tables stay as they were.
+fn put_empty(
+    tables: &mut BTreeMap<TableKey, Table>,
+    alloc: Global,
+    key: TableKey,
+    name: &Text,
+    columns: &Items<ColumnDef>,
+) -> Result<(), NoMemory>
+    ensures ok { OnOk result (tables.new.entries ≡ insert_entry db.name_cmp tables.old.entries key (record { name = name.now; columns = columns.now; rows = [] })) }
+    ensures err { OnErr result (tables.new.entries ≡ tables.old.entries) }
+{
+    match empty_table(alloc, name, columns) {
+        Ok(table) => put_table(tables, key, table),
+        Err(error) => {
+            drop(key);
+            Err(error)
+        }
+    }
+}
+
 /// A copy of each column.
 fn copy_columns(alloc: Global, columns: &[ColumnDef]) -> Result<Seq<ColumnDef>, NoMemory>
     ensures { IfOk result (λ copy. copy ≡ columns.now) }
@@ -140,16 +160,20 @@ impl Tables {
     {
         let key = TableKey::of(alloc, name)?;
         if self.tables.contains_key(&key) {
+            drop(key);
             return Err(taken(alloc, name)?);
         }
         if is_refused(name.bytes(), columns.as_slice()) {
+            drop(key);
             return Err(unbuilt(alloc)?);
         }
         match with_table_size(self.size, name, columns.as_slice()) {
-            None => Err(unbuilt(alloc)?),
+            None => {
+                drop(key);
+                Err(unbuilt(alloc)?)
+            }
             Some(size) => {
-                let table = empty_table(alloc, name, columns)?;
-                put_table(&mut self.tables, key, table)?;
+                put_empty(&mut self.tables, alloc, key, name, columns)?;
                 self.size = size;
                 Ok(Res::Done {
                     last_insert_id: 0,
@@ -169,16 +193,36 @@ impl Tables {
         ensures { running.Gives (spec.inserted self.old name.now columns.now values.now) self.old self.new result }
     {
         let key = TableKey::of(alloc, name)?;
-        let Some(table) = self.tables.get(&key) else {
+        let done = self.insert_at(alloc, &key, name, columns, values);
+        drop(key);
+        done
+    }
+
+    /// Inserts into the table at the key of the name.
+    fn insert_at(
+        &mut self,
+        alloc: Global,
+        key: &TableKey,
+        name: &Text,
+        columns: &[Text],
+        values: &[Value],
+    ) -> Result<Res, Refusal>
+        requires { key.now ≡ db.lower name.now }
+        ensures { running.Gives (spec.inserted self.old name.now columns.now values.now) self.old self.new result }
+    {
+        let Some(table) = self.tables.get(key) else {
             return Err(missing(alloc, name)?);
         };
         let Some((rowid, row)) = new_row(alloc, table, columns, values)? else {
             return Err(unbuilt(alloc)?);
         };
         match with_row_size(self.size, table.columns(), row.as_slice()) {
-            None => Err(unbuilt(alloc)?),
+            None => {
+                drop(row);
+                Err(unbuilt(alloc)?)
+            }
             Some(size) => {
-                put_row(&mut self.tables, &key, rowid, row)?;
+                put_row(&mut self.tables, key, rowid, row)?;
                 self.size = size;
                 Ok(Res::Done {
                     last_insert_id: rowid,
@@ -193,8 +237,14 @@ impl Tables {
     {
         let key = TableKey::of(alloc, name)?;
         match self.tables.get(&key) {
-            None => Err(missing(alloc, name)?),
-            Some(table) => Ok(rows_of(alloc, table)?),
+            None => {
+                drop(key);
+                Err(missing(alloc, name)?)
+            }
+            Some(table) => {
+                drop(key);
+                Ok(rows_of(alloc, table)?)
+            }
         }
     }
 
@@ -242,7 +292,7 @@ impl Tables {
     }
 
     fn run(&mut self, alloc: Global, stmt: &Stmt) -> Result<Res, Refusal>
-        ensures { running.Gives (spec.run self.old stmt.now) self.old self.new result }
+        ensures { running.Gives (spec.outcome_of self.old stmt.now) self.old self.new result }
     {
         match stmt {
             Stmt::Create {
@@ -286,15 +336,35 @@ impl Tables {
         }
     }
 
+    /// Runs the items in order, each by itself, and adds what they answer.
+    fn execute_each(
+        &mut self,
+        alloc: Global,
+        items: &[Item],
+        results: &mut Seq<Res>,
+    ) -> Result<(), NoMemory>
+        ensures database { OnOk result (self.new ≡ (spec.executed self.old items.now).0) }
+        ensures results { OnOk result (results.new ≡ results.old ++ (spec.executed self.old items.now).1) }
+    {
+        for item in items {
+            let res = self.execute(alloc, item)?;
+            results.push(res)?;
+        }
+        Ok(())
+    }
+
     /// Runs the items of an execute in order, each by itself. With no memory a part of them may be done.
     pub fn apply(&mut self, alloc: Global, items: &[Item]) -> Result<Seq<Res>, NoMemory>
         ensures { IfOk result (λ results. spec.executed self.old items.now ≡ (self.new, results)) }
     {
         let mut results = Seq::new(alloc);
-        for item in items {
-            results.push(self.execute(alloc, item)?)?;
+        match self.execute_each(alloc, items, &mut results) {
+            Ok(()) => Ok(results),
+            Err(error) => {
+                drop(results);
+                Err(error)
+            }
         }
-        Ok(results)
     }
 
     /// Answers the items of a query. It changes nothing.
@@ -303,7 +373,13 @@ impl Tables {
     {
         let mut results = Seq::new(alloc);
         for item in items {
-            results.push(self.answer(alloc, item)?)?;
+            match self.answer(alloc, item) {
+                Ok(res) => results.push(res)?,
+                Err(error) => {
+                    drop(results);
+                    return Err(error);
+                }
+            }
         }
         Ok(results)
     }

@@ -1,5 +1,4 @@
 use Rattle.std.proofs.Common.{◌≡◌, true, sym, subst, ◌∙◌, List, ℕ, w64, FitsSigned}
-use Rattle.std.specs.Fmt.{signed_decimal}
 use Rattle.std.proofs.lemmas.Int.{to_z-of_z}
 use Rattle.rq_values.specs.Text.{is_text}
 use Rattle.rq_engine.proofs.Texts.{is_text-signed_decimal}
