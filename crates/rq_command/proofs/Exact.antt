@@ -13,8 +13,7 @@ use Rattle.rq_values.proofs.Exact.{exact_bind, exact_made, exact_same, exact_che
 use Rattle.rq_statement.specs.declared.item.Item.{Item}
 use Rattle.rq_statement.specs.declared.item.Item.TheVariants.{Run, Fail}
 use Rattle.rq_print.specs.Text.{text_of}
-use Rattle.rq_statement.specs.Bytes.{item_bytes}
-use Rattle.rq_engine.specs.Command.{execute_bytes}
+use Rattle.rq_statement.specs.Bytes.{item_bytes, execute_bytes}
 use Rattle.rq_command.specs.Reading.{is_run_text, run_at, item_at, byte_at, command_at}
 use Rattle.rq_statement.specs.Items.{item_text}
 

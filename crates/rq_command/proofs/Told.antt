@@ -15,8 +15,7 @@ use Rattle.rq_values.specs.Exact.{AreBytes, AreProper, IsNamed}
 use Rattle.rq_statement.specs.declared.item.Item.{Item}
 use Rattle.rq_statement.specs.declared.item.Item.TheVariants.{Run, Fail}
 use Rattle.rq_print.specs.Text.{text_of}
-use Rattle.rq_statement.specs.Bytes.{item_bytes}
-use Rattle.rq_engine.specs.Command.{execute_bytes}
+use Rattle.rq_statement.specs.Bytes.{item_bytes, execute_bytes}
 use Rattle.rq_values.specs.declared.error.DecodeError.TheVariants as errors
 use Rattle.rq_grammar.specs.declared.stmt.Stmt.{Stmt}
 use Rattle.rq_sql.specs.Read.{Means}

@@ -16,6 +16,10 @@ abbrev pub IsStored : Item → Type 0
 IsStored (Run statement) = IsSettled statement
 IsStored (Fail error) = Unit {0}
 
+-- the item's text in the log is one, and is read as the item again
+abbrev pub IsReadable : Item → Type 0
+IsReadable item = (is_text (item_text item) ≡ true) × IsStored item
+
 -- an item whose text is one within the limit
 pub record IsItem (limit : ℕ) (item : Item) : Type 0 where
   pub short : length (item_text item) ≤ limit

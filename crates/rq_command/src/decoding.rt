@@ -3,7 +3,7 @@ ghost use Rattle.std.specs.Prelude.{◌≡◌, ◌⊎◌, ℕ, List, IfOk};
 ghost use Rattle.rq_values.specs.Place.{IsAnswer};
 ghost use Rattle.rq_values.specs.Reading.{Gives, NeedsNoMemory, many_at};
 ghost use Rattle.rq_statement.specs.declared.item.Item.{Item};
-ghost use Rattle.rq_engine.specs.Command.{execute_bytes};
+ghost use Rattle.rq_statement.specs.Bytes.{execute_bytes};
 ghost use Rattle.rq_values.specs.declared.error.DecodeError.TheVariants as errors;
 ghost use Rattle.rq_command.specs.Reading as spec;
 ghost use Rattle.rq_command.specs.Reading.{IsPreparing, run_at, item_at, byte_at, command_at};

@@ -6,4 +6,4 @@ mod laws;
 mod texts;
 
 pub use decoding::decode_execute;
-pub use laws::{each_command_has_one_answer, each_text_is_read_as_one};
+pub use laws::{each_command_has_one_answer, each_text_is_read_as_one, items_can_be_read};

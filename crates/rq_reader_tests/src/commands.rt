@@ -1,5 +1,5 @@
 use rq_command::decode_execute;
-use rq_engine::encode_execute;
+use rq_statement::encode_execute;
 use rq_values::DecodeError;
 use std::alloc::Global;
 use std::test::Fail;
