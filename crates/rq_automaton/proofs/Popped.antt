@@ -1,5 +1,5 @@
 -- The innermost frame, where it waits for the low end of a BETWEEN and where it doesn't.
-use Rattle.std.proofs.Common.{◌≡◌, ℕ, Bool, true, false, [], ◌∷◌, Option, Some, None, refl}
+use Rattle.std.proofs.Common.{◌≡◌, ℕ, false, [], ◌∷◌, refl}
 use Rattle.rq_grammar.specs.declared.expr.BinaryOp.TheVariants as op
 use Rattle.rq_grammar.specs.declared.expr.Expr.{Expr}
 use Rattle.rq_automaton.specs.declared.frame.Frame.{Frame}

@@ -1,5 +1,5 @@
 -- The least depth of a stack, from its two numbers.
-use Rattle.std.proofs.Common.{◌≡◌, ℕ, suc, ◌+◌, max, min, false, [], ◌∷◌, arith}
+use Rattle.std.proofs.Common.{◌≡◌, ℕ, suc, ◌+◌, max, false, [], ◌∷◌, arith}
 use Rattle.rq_automaton.specs.declared.frame.Clause.{Clause}
 use Rattle.rq_automaton.specs.declared.frame.Clause.TheVariants as c
 use Rattle.rq_automaton.specs.declared.frame.Frame.{Frame}

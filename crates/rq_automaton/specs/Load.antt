@@ -1,5 +1,5 @@
 -- The least depth of a statement on a stack, as two numbers: what the frames need whatever the operand is, and the levels above the operand.
-use Rattle.std.specs.Prelude.{ℕ, suc, ◌+◌, ◌≡◌, Bool, true, false, max, min, List, [], ◌∷◌, map, reverse}
+use Rattle.std.specs.Prelude.{ℕ, suc, ◌+◌, ◌≡◌, Bool, true, false, max, min, List, [], ◌∷◌, map}
 use Rattle.rq_automaton.specs.declared.place.Query.{Query}
 use Rattle.rq_automaton.specs.declared.place.Stage.{Stage}
 use Rattle.rq_automaton.specs.declared.place.Stage.TheVariants as stage

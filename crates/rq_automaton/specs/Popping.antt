@@ -1,5 +1,5 @@
 -- What taking frames off a stack gives.
-use Rattle.std.specs.Prelude.{ℕ, ◌≡◌, Bool, true, false, List, [], ◌∷◌, Option, Some, None}
+use Rattle.std.specs.Prelude.{ℕ, ◌≡◌, Bool, true, false, ◌∷◌, Option, Some, None}
 use Rattle.rq_grammar.specs.declared.expr.BinaryOp.TheVariants as op
 use Rattle.rq_grammar.specs.declared.expr.Expr.{Expr}
 use Rattle.rq_automaton.specs.declared.frame.Frame.{Frame}

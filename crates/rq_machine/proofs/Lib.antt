@@ -1,4 +1,3 @@
-pub mod Keywords
 pub mod Small
 pub mod Marks
 pub mod OneAnswer

@@ -1,5 +1,5 @@
 -- What a token does that is an operator by itself.
-use Rattle.std.proofs.Common.{◌≡◌, ℕ, Option, Some, None, refl, sym, ◌∙◌, ap}
+use Rattle.std.proofs.Common.{◌≡◌, ℕ, Some, ap}
 use Rattle.rq_grammar.specs.declared.token.Token.{Token}
 use Rattle.rq_grammar.specs.declared.token.Token.TheVariants as t
 use Rattle.rq_grammar.specs.declared.expr.BinaryOp.{BinaryOp}

@@ -1,5 +1,5 @@
 -- What is open behind an operand.
-use Rattle.std.specs.Prelude.{ℕ, ◌≡◌, Bool, true, false, ◌&&◌, nat_le, List, [], ◌∷◌, Option, Some, None}
+use Rattle.std.specs.Prelude.{ℕ, ◌≡◌, true, false, ◌&&◌, nat_le, Option, Some, None}
 use Rattle.rq_grammar.specs.declared.expr.Expr.{Expr}
 use Rattle.rq_automaton.specs.declared.frame.Frame.{Frame}
 use Rattle.rq_automaton.specs.Stack.{Stack, room, pop_of}

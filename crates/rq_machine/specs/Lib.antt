@@ -1,4 +1,3 @@
 pub mod Behind
-pub mod Keywords
 pub mod Marks
 pub mod Stop

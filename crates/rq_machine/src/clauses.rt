@@ -3,41 +3,19 @@
 ghost use Rattle.std.specs.Prelude.{◌≡◌, ◌++◌, ◌∷◌, [], None, IfOk};
 ghost use Rattle.rq_automaton.specs.Machine as machine;
 ghost use Rattle.rq_automaton.specs.Places as spec;
-ghost use Rattle.rq_automaton.specs.declared.frame.Frame.TheVariants as f;
 ghost use Rattle.rq_automaton.specs.declared.place.Place.TheVariants as p;
 ghost use Rattle.rq_automaton.specs.declared.place.InsertPlace.TheVariants as ip;
 ghost use Rattle.rq_automaton.specs.declared.place.SelectPlace.TheVariants as sp;
 ghost use Rattle.rq_automaton.specs.declared.place.Stage.TheVariants as stage;
 
-use crate::names::{Step, at, behind};
-use crate::place_weights::clause_floor;
-use crate::places::{place_finish, place_step};
-use crate::select::tail_at;
 use rq_automaton::{
     Clause, InsertPlace, Measured, MeasuredList, MeasuredQuery, MeasuredRows, MeasuredSets,
-    MeasuredStmt, Place, SelectPlace, Stack, Stage, State, Target, UpdatePlace,
+    MeasuredStmt, Place, SelectPlace, Stage, Target, UpdatePlace,
 };
 use rq_grammar::{Stmt, Token, Word};
+use rq_places::{Step, at, behind, inside, place_finish, place_step, tail_at};
 use rq_values::{NoMemory, Text};
 use std::alloc::Global;
-
-/// The stack that has the clause alone.
-pub(crate) fn stack_of(alloc: Global, clause: Clause) -> Result<Stack, NoMemory>
-    ensures { IfOk result (λ st. st ≡ f.Clause clause ∷ []) }
-{
-    let floor = clause_floor(&clause);
-    Stack::of_clause(alloc, clause, floor)
-}
-
-/// An expression of the clause is to come.
-pub(crate) fn inside(alloc: Global, clause: Clause) -> Step
-    ensures { IfOk result (λ next. next ≡ spec.inside clause) }
-{
-    match stack_of(alloc, clause) {
-        Ok(stack) => Ok(Some(State::Operand(stack))),
-        Err(error) => Err(error),
-    }
-}
 
 /// The row with one more expression at its end.
 fn with_expr(mut row: MeasuredList, expr: Measured) -> Result<MeasuredList, NoMemory>

@@ -7,10 +7,10 @@ ghost use Rattle.rq_automaton.specs.Machine as spec;
 ghost use Rattle.rq_machine.specs.Marks.{mark_operator};
 
 use crate::ending::ended;
-use crate::names::Step;
 use crate::operators::{among, and, between, binary, is, not};
 use rq_automaton::{Measured, Stack, State};
 use rq_grammar::{BinaryOp, Token, Word};
+use rq_places::Step;
 use rq_values::Text;
 use std::alloc::Global;
 

@@ -5,10 +5,10 @@ ghost use Rattle.rq_automaton.specs.Machine as spec;
 ghost use Rattle.rq_automaton.specs.Stack as k;
 
 use crate::clauses::{clause_on, landed_end};
-use crate::names::Step;
-use crate::reduce::{going_on, opened};
+use crate::reduce::opened;
 use rq_automaton::{Frame, Measured, MeasuredList, Stack, State};
 use rq_grammar::{Stmt, Token};
+use rq_places::{Step, going_on};
 use rq_values::{NoMemory, Text};
 use std::alloc::Global;
 

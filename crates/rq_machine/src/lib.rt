@@ -4,26 +4,15 @@
 #![tactic(auto)]
 
 mod clauses;
-mod create_table;
-mod delete;
 mod done;
-mod drop_table;
-mod ended;
 mod ending;
-mod insert;
 mod laws;
 mod limits;
 mod modes;
-mod names;
-mod operand;
 mod operators;
-mod place_weights;
-mod places;
 mod reduce;
-mod select;
 mod step;
 mod stop;
-mod update;
 mod within;
 
 pub use laws::each_token_has_one_answer;

@@ -4,9 +4,9 @@ ghost use Rattle.std.specs.Prelude.{◌≡◌, suc, ◌+◌, ◌≤◌, ◌&&◌
 ghost use Rattle.rq_grammar.specs.Depth as spec;
 ghost use Rattle.rq_automaton.specs.Weight.{weight, due};
 
-use crate::place_weights::{place_due, place_weight};
 use rq_automaton::{Measured, State};
 use rq_grammar::Token;
+use rq_places::{place_due, place_weight};
 
 /// One level above the expression, counted up to 101.
 fn above(expr: &Measured) -> u8

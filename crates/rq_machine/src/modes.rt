@@ -4,11 +4,9 @@ ghost use Rattle.std.specs.Prelude.{◌≡◌, IfOk};
 ghost use Rattle.rq_automaton.specs.Stack as spec;
 ghost use Rattle.rq_grammar.specs.declared.token.Token.TheVariants as t;
 
-use crate::names::Step;
-use crate::operand::pushed;
-use crate::reduce::going_on;
 use rq_automaton::{Frame, Measured, MeasuredList, Stack, State};
 use rq_grammar::{BinaryOp, Token, Word};
+use rq_places::{Step, going_on, pushed};
 use rq_values::Text;
 use std::alloc::Global;
 

@@ -6,10 +6,10 @@ ghost use Rattle.rq_grammar.specs.declared.expr.BinaryOp.TheVariants as op;
 ghost use Rattle.rq_automaton.specs.declared.frame.Frame.TheVariants as f;
 ghost use Rattle.rq_automaton.specs.declared.frame.State.TheVariants as s;
 
-use crate::names::Step;
-use crate::reduce::{going_on, reduce, tied};
+use crate::reduce::{reduce, tied};
 use rq_automaton::{Frame, Measured, Stack, State};
 use rq_grammar::BinaryOp;
+use rq_places::{Step, going_on};
 use std::alloc::Global;
 
 pub(crate) fn binary(alloc: Global, op: BinaryOp, m: u8, stack: Stack, expr: Measured) -> Step

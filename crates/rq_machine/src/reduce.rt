@@ -1,13 +1,10 @@
 //! Ending what is open before a token.
 
-ghost use Rattle.std.specs.Prelude.{◌≡◌, ◌∷◌, IfOk, false, Some};
+ghost use Rattle.std.specs.Prelude.{◌≡◌, IfOk};
 ghost use Rattle.rq_automaton.specs.Stack as spec;
-ghost use Rattle.rq_automaton.specs.Load.{is_clause};
-ghost use Rattle.rq_automaton.specs.declared.frame.State.TheVariants as s;
 ghost use Rattle.rq_machine.specs.Behind.{IsTied, IsOpen};
 
-use crate::names::Step;
-use rq_automaton::{Frame, Measured, Stack, State};
+use rq_automaton::{Frame, Measured, Stack};
 use rq_values::NoMemory;
 use std::alloc::Global;
 
@@ -87,19 +84,5 @@ pub(crate) fn opened(
             Ok((frame, stack, expr))
         }
         Err(error) => Err(error),
-    }
-}
-
-/// An operand is to come, behind one more frame.
-pub(crate) fn going_on(mut stack: Stack, frame: Frame) -> Step
-    requires { is_clause frame ≡ false }
-    ensures { IfOk result (λ x. x ≡ Some (s.Operand (frame ∷ stack))) }
-{
-    match stack.push(frame) {
-        Ok(()) => Ok(Some(State::Operand(stack))),
-        Err(error) => {
-            drop(stack);
-            Err(error)
-        }
     }
 }

@@ -6,11 +6,9 @@ ghost use Rattle.rq_automaton.specs.Machine as spec;
 use crate::done::{done, named, quoted};
 use crate::ending::end;
 use crate::modes::{among, called, counted, denied, dotted, is, listed};
-use crate::names::Step;
-use crate::operand::{operand, signed};
-use crate::places::{place_finish, place_step};
 use rq_automaton::{Measured, State};
 use rq_grammar::{Stmt, Token};
+use rq_places::{Step, operand, place_finish, place_step, signed};
 use rq_values::NoMemory;
 use std::alloc::Global;
 

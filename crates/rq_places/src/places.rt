@@ -38,7 +38,7 @@ fn start(alloc: Global, token: &Token) -> Step
 
 /// The state behind the token, if one may stand at the place.
 #[tactic(auto, unfolding(rq_automaton::specs::Places::place_step))]
-pub(crate) fn place_step(alloc: Global, place: Place, token: Token) -> Step
+pub fn place_step(alloc: Global, place: Place, token: Token) -> Step
     ensures { IfOk result (λ next. next ≡ spec.place_step place token) }
 {
     match place {
@@ -55,7 +55,7 @@ pub(crate) fn place_step(alloc: Global, place: Place, token: Token) -> Step
 
 /// The statement, if the tokens end here.
 #[tactic(auto, unfolding(rq_automaton::specs::Places::place_finish))]
-pub(crate) fn place_finish(place: Place) -> Option<Stmt>
+pub fn place_finish(place: Place) -> Option<Stmt>
     ensures { result ≡ spec.place_finish place }
 {
     match place {

@@ -5,7 +5,7 @@ ghost use Rattle.rq_automaton.specs.Places as spec;
 ghost use Rattle.rq_automaton.specs.declared.place.Place.TheVariants as p;
 ghost use Rattle.rq_automaton.specs.declared.place.InsertPlace.TheVariants as ip;
 
-use crate::clauses::inside;
+use crate::clause_start::inside;
 use crate::ended::behind_ended;
 use crate::names::{Step, at, behind, name_of};
 use rq_automaton::{

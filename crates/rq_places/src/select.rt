@@ -6,12 +6,12 @@ ghost use Rattle.rq_automaton.specs.declared.place.Place.TheVariants as p;
 ghost use Rattle.rq_automaton.specs.declared.place.SelectPlace.TheVariants as sp;
 ghost use Rattle.rq_automaton.specs.declared.place.Stage.TheVariants as stage;
 ghost use Rattle.rq_grammar.specs.declared.stmt.ResultItem.TheVariants as item;
-ghost use Rattle.rq_machine.specs.Keywords.{is_from, is_where};
+ghost use Rattle.rq_places.specs.Keywords.{is_from, is_where};
 
-use crate::clauses::{inside, stack_of};
+use crate::clause_start::{inside, stack_of};
 use crate::ended::behind_ended;
 use crate::names::{Step, at, behind, name_of};
-use crate::operand::operand;
+use crate::operands::operand;
 use rq_automaton::{Clause, Measured, MeasuredQuery, Place, SelectPlace, Stage};
 use rq_grammar::{Token, Word};
 use std::alloc::Global;
@@ -31,7 +31,7 @@ pub(crate) fn select_step(alloc: Global, place: SelectPlace, token: Token) -> St
 }
 
 /// Behind a part of the select.
-pub(crate) fn tail_at(alloc: Global, stage: Stage, query: MeasuredQuery) -> Step
+pub fn tail_at(alloc: Global, stage: Stage, query: MeasuredQuery) -> Step
     ensures { IfOk result (λ next. next ≡ spec.flat (p.Select (sp.Tail stage query))) }
 {
     at(alloc, Place::Select(SelectPlace::Tail(stage, query)))

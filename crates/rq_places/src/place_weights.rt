@@ -45,7 +45,7 @@ fn select_weight(place: &SelectPlace) -> u8
 }
 
 /// The least depth of a statement that goes on from the place.
-pub(crate) fn place_weight(place: &Place) -> u8
+pub fn place_weight(place: &Place) -> u8
     ensures { result ≡ min 101 (place_weight place.now) }
 {
     match place {
@@ -59,7 +59,7 @@ pub(crate) fn place_weight(place: &Place) -> u8
 }
 
 /// How many `(` must still come.
-pub(crate) fn place_due(place: &Place) -> u8
+pub fn place_due(place: &Place) -> u8
     ensures { result ≡ place_due place.now }
 {
     match place {

@@ -5,7 +5,7 @@ ghost use Rattle.rq_automaton.specs.Places as spec;
 ghost use Rattle.rq_automaton.specs.declared.place.Place.TheVariants as p;
 ghost use Rattle.rq_automaton.specs.declared.place.DropPlace.TheVariants as dp;
 ghost use Rattle.rq_grammar.specs.declared.stmt.Stmt.TheVariants as s;
-ghost use Rattle.rq_machine.specs.Keywords.{is_if};
+ghost use Rattle.rq_places.specs.Keywords.{is_if};
 
 use crate::ended::behind_ended;
 use crate::names::{Step, at, behind, name_of};

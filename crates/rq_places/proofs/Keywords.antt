@@ -10,7 +10,7 @@ use Rattle.rq_automaton.specs.declared.place.DropPlace.TheVariants as dp
 use Rattle.rq_automaton.specs.declared.place.SelectPlace.TheVariants as sp
 use Rattle.rq_automaton.specs.declared.frame.Clause.TheVariants as c
 use Rattle.rq_automaton.specs.Places.{flat, inside, name_of, on_name, behind_drop_table, behind_where, behind_from, behind_results}
-use Rattle.rq_machine.specs.Keywords.{is_if, is_from, is_where}
+use Rattle.rq_places.specs.Keywords.{is_if, is_from, is_where}
 
 pub drop_then : (u : Token) → is_if u ≡ true → behind_drop_table u ≡ on_name (name_of u) (λ z. p.Drop (dp.If z))
 drop_then (t.Word n w.If) h = refl

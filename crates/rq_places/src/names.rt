@@ -10,10 +10,10 @@ use sqlite_items::Boxed;
 use std::alloc::Global;
 
 /// The next state, None where no statement goes on.
-pub(crate) type Step = Result<Option<State>, NoMemory>;
+pub type Step = Result<Option<State>, NoMemory>;
 
 /// Between expressions, at the place.
-pub(crate) fn at(alloc: Global, place: Place) -> Step
+pub fn at(alloc: Global, place: Place) -> Step
     ensures { IfOk result (λ next. next ≡ spec.flat place) }
 {
     match Boxed::new(alloc, place) {
@@ -23,7 +23,7 @@ pub(crate) fn at(alloc: Global, place: Place) -> Step
 }
 
 /// The step, and the token is let go.
-pub(crate) fn behind(next: Step, token: Token) -> Step
+pub fn behind(next: Step, token: Token) -> Step
     ensures { result ≡ next }
 {
     drop(token);

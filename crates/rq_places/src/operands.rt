@@ -7,13 +7,12 @@ ghost use Rattle.rq_grammar.specs.declared.token.Token.TheVariants as t;
 ghost use Rattle.rq_automaton.specs.declared.frame.State.TheVariants as s;
 
 use crate::names::Step;
-use crate::reduce::going_on;
 use rq_automaton::{Frame, Measured, Stack, State};
 use rq_grammar::{Token, Word};
 use rq_values::{Text, Value};
 
 /// The token where an operand is to come.
-pub(crate) fn operand(stack: Stack, token: Token) -> Step
+pub fn operand(stack: Stack, token: Token) -> Step
     ensures { IfOk result (λ x. x ≡ spec.operand stack token) }
 {
     match token {
@@ -116,7 +115,7 @@ fn with_plus(stack: Stack) -> Step
 }
 
 /// The token directly behind a prefix `-`.
-pub(crate) fn signed(stack: Stack, token: Token) -> Step
+pub fn signed(stack: Stack, token: Token) -> Step
     ensures { IfOk result (λ x. x ≡ spec.signed stack token) }
 {
     match token {
@@ -140,7 +139,21 @@ fn negative(stack: Stack, n: u64) -> Option<State>
 }
 
 /// An operand is to come, behind one more frame.
-pub(crate) fn pushed(mut stack: Stack, frame: Frame, token: Token) -> Step
+pub fn going_on(mut stack: Stack, frame: Frame) -> Step
+    requires { is_clause frame ≡ false }
+    ensures { IfOk result (λ x. x ≡ Some (s.Operand (frame ∷ stack))) }
+{
+    match stack.push(frame) {
+        Ok(()) => Ok(Some(State::Operand(stack))),
+        Err(error) => {
+            drop(stack);
+            Err(error)
+        }
+    }
+}
+
+/// The token where an operand is to come, behind one more frame.
+pub fn pushed(mut stack: Stack, frame: Frame, token: Token) -> Step
     requires { is_clause frame ≡ false }
     ensures { IfOk result (λ x. x ≡ spec.operand (frame ∷ stack) token) }
 {
