@@ -21,7 +21,7 @@ fn three(alloc: Global) -> Result<Config, Fail> {
     members.push(member(alloc, b"n1")?)?;
     members.push(member(alloc, b"n2")?)?;
     members.push(member(alloc, b"n3")?)?;
-    Ok(Config::new(members))
+    Ok(Config::new(members).ok_or("ids that don't rise")?)
 }
 
 /// Each append that was sent is answered: all of it is there.
