@@ -1,5 +1,5 @@
 -- What a text is read as.
-use Rattle.std.proofs.Common.{◌≡◌, ℕ, ◌≤◌, ◌<◌, nat_le, Bool, true, false, List, [], length, Result, Ok, Err, refl, sym, ap, subst, ◌∙◌, arith}
+use Rattle.std.proofs.Common.{◌≡◌, ℕ, ◌≤◌, nat_le, Bool, true, false, List, [], length, Result, Ok, Err, refl, sym, ap, subst, ◌∙◌, arith}
 use Rattle.std.proofs.lemmas.Bool.{leb-true}
 use Rattle.std.proofs.lemmas.Bool.Decides.{nat_tests}
 use Rattle.rq_grammar.specs.declared.stmt.Stmt.{Stmt}
@@ -31,8 +31,12 @@ ProperLaw = (text : List ℕ) (s : Stmt) → Means text (Ok s) → is_statement 
 abbrev pub WrittenLaw : Type 0
 WrittenLaw = (text : List ℕ) (s : Stmt) → Means text (Ok s) → statement_written s ≡ true
 
+abbrev statement_or : Stmt → Result Stmt ReadError → Stmt
+statement_or s (Ok t) = t
+statement_or s (Err error) = s
+
 one_statement : OneAnswer → (text : List ℕ) (s t : Stmt) → Means text (Ok s) → Means text (Ok t) → s ≡ t
-one_statement one text s t first second = let same : Ok {E = ReadError} s ≡ Ok t = one text (Ok s) (Ok t) first second in cc
+one_statement one text s t first second = ap (statement_or s) (one text (Ok s) (Ok t) first second)
 
 no_statement : OneAnswer → (text : List ℕ) (error : ReadError) (s : Stmt) → Means text (Err error) → Means text (Ok s) → ⊥
 no_statement one text error s refused means = let same : Err error ≡ Ok s = one text (Err error) (Ok s) refused means in absurd (cc)

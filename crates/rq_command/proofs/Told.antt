@@ -6,9 +6,8 @@ use Rattle.std.proofs.lemmas.Bool.Decides.{nat_tests}
 use Rattle.std.proofs.lemmas.List.{append-nil}
 use Rattle.std.specs.List.{flat_map}
 use Rattle.rq_values.specs.declared.error.DecodeError.{DecodeError}
-use Rattle.rq_values.specs.Fault.{is_want_of_memory, placed}
+use Rattle.rq_values.specs.Fault.{is_want_of_memory}
 use Rattle.rq_values.specs.Place.{whole_answer, IsAnswer}
-use Rattle.rq_values.specs.Reading.{Fails}
 use Rattle.rq_values.specs.Text.{is_text}
 use Rattle.rq_values.specs.Spelling.{u32_bytes}
 use Rattle.rq_values.specs.Exact.{AreBytes, AreProper, IsNamed}
