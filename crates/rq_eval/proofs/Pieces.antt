@@ -9,9 +9,3 @@ same_put (Err b) x y z e h = h
 -- a piece behind a piece
 pub both_put : {A E : Type 0} (r : Result A E) (x old one a b : List ℕ) → one ≡ old ++ a → OnOk r (x ≡ one ++ b) → OnOk r (x ≡ old ++ (a ++ b))
 both_put r x old one a b h k = same_put r x (one ++ b) (old ++ (a ++ b)) (ap (λ (z : List ℕ). z ++ b) h ∙ append_assoc old a b) k
-
--- the second and the fourth of four pieces under other names
-pub renamed_put : {A E : Type 0} (r : Result A E) (x old a b c d m n : List ℕ) → b ≡ m → d ≡ n → OnOk r (x ≡ old ++ (a ++ b ++ c ++ d)) → OnOk r (x ≡ old ++ (a ++ m ++ c ++ n))
-renamed_put r x old a b c d m n h k p =
-    same_put r x (old ++ (a ++ b ++ c ++ d)) (old ++ (a ++ m ++ c ++ n))
-    (ap (λ (z : List ℕ). old ++ (a ++ z ++ c ++ d)) h ∙ ap (λ (z : List ℕ). old ++ (a ++ m ++ c ++ z)) k) p

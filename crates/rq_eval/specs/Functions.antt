@@ -1,5 +1,5 @@
 -- The functions: their names, how many arguments each takes, and what the operators and the functions of one value give.
-use Rattle.std.specs.Prelude.{ℕ, Bool, not, if◌then◌else◌, nat_eq, nat_le, List, codes, bytes_eq, Option, Some, None, Ok}
+use Rattle.std.specs.Prelude.{ℕ, Bool, not, if◌then◌else◌, nat_eq, nat_le, List, [], ◌∷◌, codes, bytes_eq, Option, Some, None, Ok}
 use Rattle.std.specs.Ordering.{is_eq, is_ne, is_lt, is_le, is_gt, is_ge}
 use Rattle.rq_values.specs.declared.value.Value.{Value}
 use Rattle.rq_grammar.specs.declared.expr.BinaryOp.{BinaryOp}
@@ -15,38 +15,36 @@ use Rattle.rq_eval.specs.Outcome.{Outcome, then_with}
 use Rattle.rq_eval.specs.Operators as o
 use Rattle.rq_eval.specs.Texts as t
 
--- the functions of one row
-abbrev pub scalar_of : List ℕ → Option Function
-scalar_of n =
-    if bytes_eq n (codes "ABS") then Some (f.Unary u.Abs) else
-    if bytes_eq n (codes "LENGTH") then Some (f.Unary u.Length) else
-    if bytes_eq n (codes "LOWER") then Some (f.Unary u.Lower) else
-    if bytes_eq n (codes "UPPER") then Some (f.Unary u.Upper) else
-    if bytes_eq n (codes "HEX") then Some (f.Unary u.Hex) else
-    if bytes_eq n (codes "TYPEOF") then Some (f.Unary u.TypeOf) else
-    if bytes_eq n (codes "DATE") then Some (f.Unary (u.Part part.Date)) else
-    if bytes_eq n (codes "TIME") then Some (f.Unary (u.Part part.Time)) else
-    if bytes_eq n (codes "DATETIME") then Some (f.Unary (u.Part part.DateTime)) else
-    if bytes_eq n (codes "COALESCE") then Some f.Coalesce else
-    if bytes_eq n (codes "IFNULL") then Some f.IfNull else
-    if bytes_eq n (codes "RANDOM") then Some f.Random else
-    if bytes_eq n (codes "RANDOMBLOB") then Some f.RandomBlob else None
+-- the functions and their names: those of one row, and those over all rows
+abbrev pub functions : List (List ℕ × Function)
+functions =
+    (codes "ABS", f.Unary u.Abs)
+    ∷ (codes "LENGTH", f.Unary u.Length)
+    ∷ (codes "LOWER", f.Unary u.Lower)
+    ∷ (codes "UPPER", f.Unary u.Upper)
+    ∷ (codes "HEX", f.Unary u.Hex)
+    ∷ (codes "TYPEOF", f.Unary u.TypeOf)
+    ∷ (codes "DATE", f.Unary (u.Part part.Date))
+    ∷ (codes "TIME", f.Unary (u.Part part.Time))
+    ∷ (codes "DATETIME", f.Unary (u.Part part.DateTime))
+    ∷ (codes "COALESCE", f.Coalesce)
+    ∷ (codes "IFNULL", f.IfNull)
+    ∷ (codes "RANDOM", f.Random)
+    ∷ (codes "RANDOMBLOB", f.RandomBlob)
+    ∷ (codes "COUNT", f.Aggregate a.Count)
+    ∷ (codes "SUM", f.Aggregate a.Sum)
+    ∷ (codes "MIN", f.Aggregate a.Min)
+    ∷ (codes "MAX", f.Aggregate a.Max)
+    ∷ []
 
--- the functions over all rows
-abbrev pub aggregate_of : List ℕ → Option Function
-aggregate_of n =
-    if bytes_eq n (codes "COUNT") then Some (f.Aggregate a.Count) else
-    if bytes_eq n (codes "SUM") then Some (f.Aggregate a.Sum) else
-    if bytes_eq n (codes "MIN") then Some (f.Aggregate a.Min) else
-    if bytes_eq n (codes "MAX") then Some (f.Aggregate a.Max) else None
-
-abbrev pub or_else : Option Function → Option Function → Option Function
-or_else (Some h) other = Some h
-or_else None other = other
+-- the first that has the name
+abbrev pub named_among : List (List ℕ × Function) → List ℕ → Option Function
+named_among [] n = None
+named_among (h ∷ hs) n = if bytes_eq h.0 n then Some h.1 else named_among hs n
 
 -- a call's name stands in upper case
-abbrev pub function_of : List ℕ → Option Function
-function_of n = or_else (scalar_of n) (aggregate_of n)
+unfoldable pub function_of : List ℕ → Option Function
+function_of n = named_among functions n
 
 abbrev pub takes : Function → ℕ → Bool
 takes (f.Unary h) n = nat_eq n 1

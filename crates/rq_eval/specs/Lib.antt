@@ -1,11 +1,9 @@
 pub mod Aggregates
 pub mod ErrorText
 pub mod Functions
-pub mod Like
 pub mod Names
 pub mod Operators
 pub mod Outcome
 pub mod Resolved
 pub mod Texts
-pub mod TimeText
 pub mod Value

@@ -1,13 +1,14 @@
 -- Operators and functions over texts, as docs/SQL.md has them under "The value of an expression".
 -- Source: SQLite, "Built-In Scalar SQL Functions", "Date And Time Functions"; `||` and LIKE: "SQL Language Expressions".
-use Rattle.std.specs.Prelude.{ℕ, ◌+◌, ◌/◌, ◌%◌, Bool, if◌then◌else◌, nat_lt, take, drop, List, [], ◌∷◌, ◌++◌, map, flat_map, length, codes, Some, Ok, Err, pos}
+use Rattle.std.specs.Prelude.{ℕ, if◌then◌else◌, List, [], ◌++◌, map, flat_map, length, codes, Some, Ok, Err, pos}
 use Rattle.std.specs.Str.{chars}
 use Rattle.std.specs.Fmt.{signed_decimal}
 use Rattle.std.specs.Char.{to_ascii_lowercase, to_ascii_uppercase}
 use Rattle.rq_values.specs.declared.value.Value.{Value}
 use Rattle.rq_values.specs.declared.value.Value.TheVariants as v
-use Rattle.rq_eval.specs.Like.{like}
-use Rattle.rq_eval.specs.TimeText.{is_time_text}
+use Rattle.rq_texts.specs.Like.{like}
+use Rattle.rq_texts.specs.Hex.{hex_byte}
+use Rattle.rq_texts.specs.TimeText.{is_time_text, date, time, date_time}
 use Rattle.rq_eval.specs.Outcome.{Outcome, then_with}
 use Rattle.rq_eval.specs.Operators.{truth, is_null, either_null, in_range}
 use Rattle.rq_eval.specs.declared.resolved.TimePart.{TimePart}
@@ -59,12 +60,6 @@ length_of (v.Int n) = in_range (pos (length (signed_decimal n)))
 length_of (v.Text t) = in_range (pos (length (chars t)))
 length_of (v.Blob b) = in_range (pos (length b))
 
-abbrev pub hex_digit : ℕ → ℕ
-hex_digit n = if nat_lt n 10 then 48 + n else 55 + n
-
-abbrev pub hex_byte : ℕ → List ℕ
-hex_byte b = hex_digit (b / 16) ∷ hex_digit (b % 16) ∷ []
-
 abbrev pub bytes_of : Value → List ℕ
 bytes_of v.Null = []
 bytes_of (v.Int n) = signed_decimal n
@@ -83,19 +78,7 @@ kind_of (v.Blob b) = codes "blob"
 abbrev pub type_of : Value → Value
 type_of x = v.Text (kind_of x)
 
-abbrev pub has_time : List ℕ → Bool
-has_time s = nat_lt 10 (length s)
-
--- DATE, TIME and DATETIME of a valid time text; midnight where it has no time
-abbrev pub date : List ℕ → List ℕ
-date s = take 10 s
-
-abbrev pub time : List ℕ → List ℕ
-time s = if has_time s then drop 11 s else codes "00:00:00"
-
-abbrev pub date_time : List ℕ → List ℕ
-date_time s = if has_time s then s else s ++ codes " 00:00:00"
-
+-- DATE, TIME and DATETIME of a valid time text
 abbrev pub part_of : TimePart → List ℕ → List ℕ
 part_of part.Date s = date s
 part_of part.Time s = time s

@@ -116,10 +116,18 @@ impl Drop for StmtError {
 }
 
 /// Why there is no value.
-#[derive(Drop)]
 pub enum EvalError {
     Says(StmtError),
     NoMemory,
+}
+
+impl Drop for EvalError {
+    fn drop(self) {
+        match self {
+            EvalError::Says(error) => drop(error),
+            EvalError::NoMemory => {}
+        }
+    }
 }
 
 impl From<AllocError> for EvalError {

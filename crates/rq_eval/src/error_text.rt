@@ -9,14 +9,21 @@ use rq_grammar::ColumnKind;
 use rq_values::{NoMemory, Text};
 use std::alloc::Global;
 
-fn kind_name(kind: ColumnKind) -> &'static [u8]
-    ensures name { result.now ≡ spec.kind_name kind }
+/// Which value can't be stored in which column.
+fn kinds(value: ColumnKind, kind: ColumnKind) -> &'static [u8]
+    ensures words { result.now ≡ spec.value_in value kind }
     ensures plain { is_plain result.now ≡ true }
 {
-    match kind {
-        ColumnKind::Integer => b"INTEGER",
-        ColumnKind::Text => b"TEXT",
-        ColumnKind::Blob => b"BLOB",
+    match (value, kind) {
+        (ColumnKind::Integer, ColumnKind::Integer) => b"cannot store INTEGER value in INTEGER",
+        (ColumnKind::Integer, ColumnKind::Text) => b"cannot store INTEGER value in TEXT",
+        (ColumnKind::Integer, ColumnKind::Blob) => b"cannot store INTEGER value in BLOB",
+        (ColumnKind::Text, ColumnKind::Integer) => b"cannot store TEXT value in INTEGER",
+        (ColumnKind::Text, ColumnKind::Text) => b"cannot store TEXT value in TEXT",
+        (ColumnKind::Text, ColumnKind::Blob) => b"cannot store TEXT value in BLOB",
+        (ColumnKind::Blob, ColumnKind::Integer) => b"cannot store BLOB value in INTEGER",
+        (ColumnKind::Blob, ColumnKind::Text) => b"cannot store BLOB value in TEXT",
+        (ColumnKind::Blob, ColumnKind::Blob) => b"cannot store BLOB value in BLOB",
     }
 }
 
@@ -104,28 +111,6 @@ fn put_counts(
     put_count(text, alloc, second, behind)
 }
 
-/// Words, words, words and words.
-fn put_words(text: &mut Text, a: &[u8], b: &[u8], c: &[u8], d: &[u8]) -> Result<(), NoMemory>
-    requires a { is_plain a.now ≡ true }
-    requires b { is_plain b.now ≡ true }
-    requires c { is_plain c.now ≡ true }
-    requires d { is_plain d.now ≡ true }
-    ensures { OnOk result (text.new ≡ text.old ++ (a.now ++ b.now ++ c.now ++ d.now)) }
-{
-    text.push_plain(a)?;
-    text.push_plain(b)?;
-    text.push_plain(c)?;
-    text.push_plain(d)
-}
-
-fn put_kinds(text: &mut Text, value: ColumnKind, kind: ColumnKind) -> Result<(), NoMemory>
-    ensures { OnOk result (text.new ≡ text.old ++ spec.value_in value kind) }
-{
-    let value = kind_name(value);
-    let kind = kind_name(kind);
-    put_words(text, b"cannot store ", value, b" value in ", kind)
-}
-
 fn put_cannot_store(
     text: &mut Text,
     value: ColumnKind,
@@ -135,7 +120,7 @@ fn put_cannot_store(
 ) -> Result<(), NoMemory>
     ensures { OnOk result (text.new ≡ text.old ++ (spec.value_in value kind ++ (codes " column " ++ table.now ++ codes "." ++ column.now))) }
 {
-    put_kinds(text, value, kind)?;
+    text.push_plain(kinds(value, kind))?;
     put_column(text, b" column ", table, b".", column)
 }
 
@@ -144,58 +129,58 @@ impl StmtError {
         ensures { OnOk result (text.new ≡ text.old ++ spec.error_text self.now) }
     {
         match self {
-            StmtError::QueryInExecute => text.push_plain(b"query in execute"),
-            StmtError::ChangeInQuery => {
+            Self::QueryInExecute => text.push_plain(b"query in execute"),
+            Self::ChangeInQuery => {
                 text.push_plain(b"attempt to change database via query operation")
             }
-            StmtError::NoTable(t) => put_name(text, b"no such table: ", t),
-            StmtError::TableExists(t) => put_named(text, b"table ", t, b" already exists"),
-            StmtError::ReservedName(t) => {
+            Self::NoTable(t) => put_name(text, b"no such table: ", t),
+            Self::TableExists(t) => put_named(text, b"table ", t, b" already exists"),
+            Self::ReservedName(t) => {
                 put_name(text, b"object name reserved for internal use: ", t)
             }
-            StmtError::DuplicateColumn(c) => put_name(text, b"duplicate column name: ", c),
-            StmtError::SecondPrimaryKey(t) => {
+            Self::DuplicateColumn(c) => put_name(text, b"duplicate column name: ", c),
+            Self::SecondPrimaryKey(t) => {
                 put_named(text, b"table ", t, b" has more than one primary key")
             }
-            StmtError::NoColumnInTable { table, column } => {
+            Self::NoColumnInTable { table, column } => {
                 put_column(text, b"table ", table, b" has no column named ", column)
             }
-            StmtError::NoColumn(c) => put_name(text, b"no such column: ", c),
-            StmtError::NoQualifiedColumn { table, column } => {
+            Self::NoColumn(c) => put_name(text, b"no such column: ", c),
+            Self::NoQualifiedColumn { table, column } => {
                 put_column(text, b"no such column: ", table, b".", column)
             }
-            StmtError::WrongValueCount {
+            Self::WrongValueCount {
                 table,
                 columns,
                 values,
             } => put_value_count(text, alloc, table, *columns, *values),
-            StmtError::WrongListCount { values, columns } => {
+            Self::WrongListCount { values, columns } => {
                 put_counts(text, alloc, *values, b" values for ", *columns, b" columns")
             }
-            StmtError::NoFunction(f) => put_name(text, b"no such function: ", f),
-            StmtError::WrongArguments(f) => {
+            Self::NoFunction(f) => put_name(text, b"no such function: ", f),
+            Self::WrongArguments(f) => {
                 put_named(text, b"wrong number of arguments to function ", f, b"()")
             }
-            StmtError::MisuseOfAggregate => text.push_plain(b"misuse of aggregate"),
-            StmtError::OrderTermOutOfRange => text.push_plain(b"ORDER BY term out of range"),
-            StmtError::DatatypeMismatch => text.push_plain(b"datatype mismatch"),
-            StmtError::NotInteger => text.push_plain(b"not an integer"),
-            StmtError::NotText => text.push_plain(b"not a text"),
-            StmtError::NotCondition => text.push_plain(b"not a condition"),
-            StmtError::NotTimeText => text.push_plain(b"not a time text"),
-            StmtError::IntegerOverflow => text.push_plain(b"integer overflow"),
-            StmtError::CannotStore {
+            Self::MisuseOfAggregate => text.push_plain(b"misuse of aggregate"),
+            Self::OrderTermOutOfRange => text.push_plain(b"ORDER BY term out of range"),
+            Self::DatatypeMismatch => text.push_plain(b"datatype mismatch"),
+            Self::NotInteger => text.push_plain(b"not an integer"),
+            Self::NotText => text.push_plain(b"not a text"),
+            Self::NotCondition => text.push_plain(b"not a condition"),
+            Self::NotTimeText => text.push_plain(b"not a time text"),
+            Self::IntegerOverflow => text.push_plain(b"integer overflow"),
+            Self::CannotStore {
                 value,
                 kind,
                 table,
                 column,
             } => put_cannot_store(text, *value, *kind, table, column),
-            StmtError::RowidOutOfRange => text.push_plain(b"rowid out of range"),
-            StmtError::Full => text.push_plain(b"database or disk is full"),
-            StmtError::NotNullFailed { table, column } => {
+            Self::RowidOutOfRange => text.push_plain(b"rowid out of range"),
+            Self::Full => text.push_plain(b"database or disk is full"),
+            Self::NotNullFailed { table, column } => {
                 put_column(text, b"NOT NULL constraint failed: ", table, b".", column)
             }
-            StmtError::UniqueFailed { table, column } => {
+            Self::UniqueFailed { table, column } => {
                 put_column(text, b"UNIQUE constraint failed: ", table, b".", column)
             }
         }

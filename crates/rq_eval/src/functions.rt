@@ -1,74 +1,52 @@
 //! The functions that a call may name.
 
-ghost use Rattle.std.specs.Prelude.{◌≡◌, bytes_eq};
+ghost use Rattle.std.specs.Prelude.{◌≡◌, map};
 ghost use Rattle.rq_eval.specs.Functions as spec;
 
 use crate::resolved::{AggregateOp, Function, TimePart, UnaryOp};
 
-fn is(name: &[u8], word: &[u8]) -> bool
-    ensures { result ≡ bytes_eq name.now word.now }
-{
-    name == word
-}
+/// The functions and their names.
+const FUNCTIONS: [(&[u8], Function); 17] = [
+    (b"ABS", Function::Unary(UnaryOp::Abs)),
+    (b"LENGTH", Function::Unary(UnaryOp::Length)),
+    (b"LOWER", Function::Unary(UnaryOp::Lower)),
+    (b"UPPER", Function::Unary(UnaryOp::Upper)),
+    (b"HEX", Function::Unary(UnaryOp::Hex)),
+    (b"TYPEOF", Function::Unary(UnaryOp::TypeOf)),
+    (b"DATE", Function::Unary(UnaryOp::Part(TimePart::Date))),
+    (b"TIME", Function::Unary(UnaryOp::Part(TimePart::Time))),
+    (
+        b"DATETIME",
+        Function::Unary(UnaryOp::Part(TimePart::DateTime)),
+    ),
+    (b"COALESCE", Function::Coalesce),
+    (b"IFNULL", Function::IfNull),
+    (b"RANDOM", Function::Random),
+    (b"RANDOMBLOB", Function::RandomBlob),
+    (b"COUNT", Function::Aggregate(AggregateOp::Count)),
+    (b"SUM", Function::Aggregate(AggregateOp::Sum)),
+    (b"MIN", Function::Aggregate(AggregateOp::Min)),
+    (b"MAX", Function::Aggregate(AggregateOp::Max)),
+];
 
-fn scalar_of(name: &[u8]) -> Option<Function>
-    ensures { result ≡ spec.scalar_of name.now }
+fn named_among(functions: &[(&[u8], Function)], name: &[u8]) -> Option<Function>
+    ensures { result ≡ spec.named_among (map (λ f. (f.0.now, f.1)) functions.now) name.now }
 {
-    if is(name, b"ABS") {
-        Some(Function::Unary(UnaryOp::Abs))
-    } else if is(name, b"LENGTH") {
-        Some(Function::Unary(UnaryOp::Length))
-    } else if is(name, b"LOWER") {
-        Some(Function::Unary(UnaryOp::Lower))
-    } else if is(name, b"UPPER") {
-        Some(Function::Unary(UnaryOp::Upper))
-    } else if is(name, b"HEX") {
-        Some(Function::Unary(UnaryOp::Hex))
-    } else if is(name, b"TYPEOF") {
-        Some(Function::Unary(UnaryOp::TypeOf))
-    } else if is(name, b"DATE") {
-        Some(Function::Unary(UnaryOp::Part(TimePart::Date)))
-    } else if is(name, b"TIME") {
-        Some(Function::Unary(UnaryOp::Part(TimePart::Time)))
-    } else if is(name, b"DATETIME") {
-        Some(Function::Unary(UnaryOp::Part(TimePart::DateTime)))
-    } else if is(name, b"COALESCE") {
-        Some(Function::Coalesce)
-    } else if is(name, b"IFNULL") {
-        Some(Function::IfNull)
-    } else if is(name, b"RANDOM") {
-        Some(Function::Random)
-    } else if is(name, b"RANDOMBLOB") {
-        Some(Function::RandomBlob)
-    } else {
-        None
+    let mut functions = functions;
+    while let [first, rest @ ..] = functions {
+        if first.0 == name {
+            return Some(first.1);
+        }
+        functions = rest;
     }
-}
-
-fn aggregate_of(name: &[u8]) -> Option<Function>
-    ensures { result ≡ spec.aggregate_of name.now }
-{
-    if is(name, b"COUNT") {
-        Some(Function::Aggregate(AggregateOp::Count))
-    } else if is(name, b"SUM") {
-        Some(Function::Aggregate(AggregateOp::Sum))
-    } else if is(name, b"MIN") {
-        Some(Function::Aggregate(AggregateOp::Min))
-    } else if is(name, b"MAX") {
-        Some(Function::Aggregate(AggregateOp::Max))
-    } else {
-        None
-    }
+    None
 }
 
 /// The function of that name, which stands in upper case.
 pub fn function_of(name: &[u8]) -> Option<Function>
     ensures { result ≡ spec.function_of name.now }
 {
-    match scalar_of(name) {
-        Some(function) => Some(function),
-        None => aggregate_of(name),
-    }
+    named_among(&FUNCTIONS, name)
 }
 
 /// Whether the function takes so many arguments.

@@ -1,8 +1,6 @@
 //! Texts: `||`, LIKE, and the functions over texts.
 
-ghost use Rattle.std.specs.Prelude.{◌≡◌, ◌<◌, Ok, ◌++◌, true, flat_map, IfOk, OnOk, pos, length};
-ghost use Rattle.std.specs.Fmt.{signed_decimal};
-ghost use Rattle.std.specs.Str.{chars};
+ghost use Rattle.std.specs.Prelude.{◌≡◌, Ok, true, pos};
 ghost use Rattle.rq_values.specs.declared.value.Value.TheVariants as values;
 ghost use Rattle.rq_values.specs.Text.{is_plain};
 ghost use Rattle.rq_eval.specs.Outcome as outcome;
@@ -11,8 +9,8 @@ ghost use Rattle.rq_eval.specs.Texts as texts;
 
 use crate::comparing::{either_null, is_null};
 use crate::error::{EvalError, StmtError};
-use crate::like::is_like;
 use crate::logic::truth;
+use rq_texts::{character_count, digit_count, hex_integer, hex_text, is_like_text, plain_text};
 use rq_values::{NoMemory, Text, TryCopy, Value};
 use std::alloc::Global;
 
@@ -44,24 +42,12 @@ pub fn text_value(text: Result<Text, NoMemory>) -> Result<Value, EvalError>
     }
 }
 
-/// The characters of a text.
-#[tactic(auto, using(std::proofs::lemmas::Str::chars_from_encodes))]
-fn characters(alloc: Global, text: &str) -> Result<Vec<char>, NoMemory>
-    ensures { IfOk result (λ found. found.items ≡ chars text.now) }
-{
-    Ok(text.chars().collect(alloc)?)
-}
-
 fn like_texts(alloc: Global, text: &Text, pattern: &Text) -> Result<Value, EvalError>
     ensures { outcome.Answers (Ok (texts.like_value text.now pattern.now)) result }
 {
-    let text = characters(alloc, text.as_str())?;
-    match characters(alloc, pattern.as_str()) {
-        Ok(pattern) => Ok(truth(Some(is_like(&pattern, &text)))),
-        Err(_) => {
-            drop(text);
-            Err(EvalError::NoMemory)
-        }
+    match is_like_text(alloc, text, pattern) {
+        Ok(is) => Ok(truth(Some(is))),
+        Err(_) => Err(EvalError::NoMemory),
     }
 }
 
@@ -139,20 +125,6 @@ pub fn count(n: usize) -> Result<Value, StmtError>
     }
 }
 
-#[tactic(auto, using(std::proofs::lemmas::Str::chars_from_encodes))]
-fn character_count(text: &str) -> usize
-    ensures { result ≡ length (chars text.now) }
-{
-    text.chars().count()
-}
-
-fn digit_count(number: i64) -> usize
-    ensures { result ≡ length (signed_decimal number) }
-{
-    let mut buffer = itoa::Buffer::new();
-    buffer.format(number).len()
-}
-
 /// LENGTH
 pub fn length(a: &Value) -> Result<Value, StmtError>
     ensures { result ≡ texts.length_of a.now }
@@ -165,46 +137,13 @@ pub fn length(a: &Value) -> Result<Value, StmtError>
     }
 }
 
-fn hex_digit(digit: u8) -> u8
-    requires { digit < 16 }
-    ensures { result ≡ texts.hex_digit digit }
-{
-    if digit < 10 { 48 + digit } else { 55 + digit }
-}
-
-#[tactic(auto, using(crate::proofs::Hex::hex_byte_plain))]
-fn put_byte(digits: &mut Text, byte: u8) -> Result<(), NoMemory>
-    ensures { OnOk result (digits.new ≡ digits.old ++ texts.hex_byte byte) }
-{
-    digits.push_plain(&[hex_digit(byte / 16), hex_digit(byte % 16)])
-}
-
-fn hex_text(alloc: Global, bytes: &[u8]) -> Result<Text, NoMemory>
-    ensures { IfOk result (λ text. text ≡ flat_map texts.hex_byte bytes.now) }
-{
-    let mut digits = Text::empty(alloc);
-    for byte in bytes {
-        match put_byte(&mut digits, *byte) {
-            Ok(()) => {}
-            Err(e) => {
-                drop(digits);
-                return Err(e);
-            }
-        }
-    }
-    Ok(digits)
-}
-
 /// HEX
 pub fn hex(alloc: Global, a: &Value) -> Result<Value, EvalError>
     ensures { outcome.Answers (Ok (texts.hex a.now)) result }
 {
     match a {
         Value::Null => Ok(Value::Text(Text::empty(alloc))),
-        Value::Int(number) => {
-            let mut buffer = itoa::Buffer::new();
-            text_value(hex_text(alloc, buffer.format(*number).as_bytes()))
-        }
+        Value::Int(number) => text_value(hex_integer(alloc, *number)),
         Value::Text(text) => text_value(hex_text(alloc, text.bytes())),
         Value::Blob(bytes) => text_value(hex_text(alloc, bytes.bytes())),
     }
@@ -219,21 +158,6 @@ fn kind(a: &Value) -> &'static [u8]
         Value::Int(_) => b"integer",
         Value::Text(_) => b"text",
         Value::Blob(_) => b"blob",
-    }
-}
-
-/// A text of these words.
-pub fn plain_text(alloc: Global, plain: &[u8]) -> Result<Text, NoMemory>
-    requires { is_plain plain.now ≡ true }
-    ensures { IfOk result (λ text. text ≡ plain.now) }
-{
-    let mut text = Text::empty(alloc);
-    match text.push_plain(plain) {
-        Ok(()) => Ok(text),
-        Err(e) => {
-            drop(text);
-            Err(e)
-        }
     }
 }
 

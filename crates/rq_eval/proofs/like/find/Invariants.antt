@@ -1,6 +1,0 @@
-use Rattle.std.proofs.Common.{◌≡◌, drop}
-use Rattle.rq_eval.specs.Like as spec
-use Rattle.rq_eval.proofs.like.find.Given as goal
-
-abbrev pub invariant-loop-start : goal.invariant-loop-start
-invariant-loop-start l = spec.some_rest (spec.like l.pattern) (drop l.start l.text) ≡ spec.some_rest (spec.like l.pattern) l.text

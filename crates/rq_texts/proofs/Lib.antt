@@ -1,0 +1,3 @@
+pub mod Liking
+pub mod Digits
+pub mod TimeTexts
