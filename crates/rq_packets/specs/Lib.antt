@@ -1,0 +1,4 @@
+pub mod Exact
+pub mod Reading
+pub mod Sent
+pub mod Spelling
