@@ -1,13 +1,12 @@
 -- Sources of tokens, and what a text is prepared as.
 use Rattle.std.proofs.Common.{◌≡◌, ◌≤◌, ◌<◌, ⊎_elim, ℕ, zero, suc, ◌-◌, min, nat_le, Bool, true, false, List, [], length, take, drop, Result, Ok, Err, refl, sym, ◌∙◌, ap, arith}
 use Rattle.std.specs.Prelude.{if◌then◌else◌}
-use Rattle.std.proofs.lemmas.List.{take_min, drop_min, drop_all, take_all, length-drop}
+use Rattle.std.proofs.lemmas.List.{drop_all, take_all, length-drop}
 use Rattle.std.proofs.lemmas.Bool.{cases_lt}
 use Rattle.std.proofs.lemmas.Bool.Decides.{nat_tests}
 use Rattle.rq_grammar.specs.declared.stmt.Stmt.{Stmt}
 use Rattle.rq_statement.specs.declared.item.Item.{Item}
 use Rattle.rq_statement.specs.declared.item.Item.TheVariants.{Run, Fail}
-use Rattle.rq_statement.specs.declared.settled.SettleError.{SettleError}
 use Rattle.rq_statement.specs.declared.settled.SettleError.TheVariants as errors
 use Rattle.rq_statement.specs.Fixed.{statement_fixed}
 use Rattle.rq_statement.specs.Settled.{IsSettled}

@@ -1,5 +1,5 @@
 -- What a statement's text is, made ready for the log: docs/SQL.md, "Settled statements" and "Errors of reading".
-use Rattle.std.specs.Prelude.{◌≡◌, ◌-◌, ◌==◌, nat_eq, nat_le, ℕ, if◌then◌else◌, List, [], ◌++◌, length, take, drop, codes, Option, Some, None, Result, Ok, Err}
+use Rattle.std.specs.Prelude.{◌≡◌, ◌-◌, ◌==◌, nat_le, ℕ, if◌then◌else◌, List, [], ◌++◌, length, take, drop, codes, Result, Ok, Err}
 use Rattle.std.specs.Fmt.{decimal}
 use Rattle.rq_grammar.specs.declared.stmt.Stmt.{Stmt}
 use Rattle.rq_sql.specs.declared.error.ReadError.{ReadError}
