@@ -12,7 +12,6 @@ use Rattle.rq_node.specs.Files.{stored_entry}
 use Rattle.rq_values.specs.Spelling.{u32_bytes}
 use Rattle.rq_statement.specs.declared.item.Item.{Item}
 use Rattle.rq_statement.specs.declared.item.Item.TheVariants.{Run, Fail}
-use Rattle.rq_print.specs.Text as print
 use Rattle.rq_statement.specs.Bytes.{item_bytes}
 use Rattle.rq_engine.specs.Command.{execute_bytes}
 use Rattle.rq_command.specs.Stored.{text_of, IsItem, IsCommand}
@@ -65,7 +64,7 @@ some_readable kept items k can = readable_after kept (take k items) can.0 (All-t
 -- ---- items and commands
 
 text_within : (item : Item) → length (text_of item) + 1 ≤ length (item_bytes item)
-text_within (Run statement) = omega (arith, length-append (u32_bytes (length (print.text_of statement))) (print.text_of statement))
+text_within (Run statement) = omega (arith, length-append (u32_bytes (length (text_of (Run statement)))) (text_of (Run statement)))
 text_within (Fail error) = omega (arith, length-append (u32_bytes (length error)) error)
 
 record Fit (limit : ℕ) (items : List Item) : Type 0 where

@@ -67,7 +67,12 @@ fn finish(output: Output, into: &mut Vec<u8>) -> Result<(), NoMemory>
     }
 }
 
-fn write_reply(alloc: Global, say: &Say, associative: bool, output: &mut Output) -> Result<(), AllocError>
+fn write_reply(
+    alloc: Global,
+    say: &Say,
+    associative: bool,
+    output: &mut Output,
+) -> Result<(), AllocError>
     ensures { Adds result output.old output.new (spec.object_of (spec.reply_members associative say.now)) }
 {
     output.begin_object()?;
@@ -173,7 +178,11 @@ fn write_error(text: &Text, output: &mut Output) -> Result<(), AllocError>
     output.string(text.as_str())
 }
 
-fn write_done(last_insert_id: i64, rows_affected: u64, output: &mut Output) -> Result<(), AllocError>
+fn write_done(
+    last_insert_id: i64,
+    rows_affected: u64,
+    output: &mut Output,
+) -> Result<(), AllocError>
     ensures { Adds result output.old output.new (spec.id_member last_insert_id ++ spec.affected_member rows_affected) }
 {
     write_last_insert_id(last_insert_id, output)?;
@@ -285,7 +294,11 @@ fn write_row(alloc: Global, row: &[Value], output: &mut Output) -> Result<(), Al
     output.end_array()
 }
 
-pub(crate) fn write_value(alloc: Global, value: &Value, output: &mut Output) -> Result<(), AllocError>
+pub(crate) fn write_value(
+    alloc: Global,
+    value: &Value,
+    output: &mut Output,
+) -> Result<(), AllocError>
     ensures { Adds result output.old output.new (spec.value_token value.now ∷ []) }
 {
     match value {
