@@ -27,13 +27,12 @@ pub id_is_utf8 : (bytes : List ℕ) → is_id bytes ≡ true → IsUtf8 bytes
 unfolding is_id
 id_is_utf8 [] h = absurd (cc)
 id_is_utf8 (first ∷ rest) h =
-    let parts = and_parts (is_lower first) (nat_lt (length rest) 16 && list_all is_lower_or_digit rest) h in
-    let behind = and_parts (nat_lt (length rest) 16) (list_all is_lower_or_digit rest) parts.1 in
-    IsUtf8-from_ascii (first ∷ rest) (IsAscii-cons first rest (lower_is_low first parts.0) (all_ascii is_lower_or_digit name_is_low rest behind.1))
+    let parts = and_parts (is_lower first && nat_lt (length rest) 16) (list_all is_lower_or_digit rest) h in
+    let start = and_parts (is_lower first) (nat_lt (length rest) 16) parts.0 in
+    IsUtf8-from_ascii (first ∷ rest) (IsAscii-cons first rest (lower_is_low first start.0) (all_ascii is_lower_or_digit name_is_low rest parts.1))
 
 pub address_is_utf8 : (bytes : List ℕ) → is_addr bytes ≡ true → IsUtf8 bytes
 unfolding is_addr
 address_is_utf8 bytes h =
-    let parts = and_parts (nat_lt 0 (length bytes)) (nat_lt (length bytes) 256 && list_all is_visible bytes) h in
-    let behind = and_parts (nat_lt (length bytes) 256) (list_all is_visible bytes) parts.1 in
-    IsUtf8-from_ascii bytes (all_ascii is_visible visible_is_low bytes behind.1)
+    let parts = and_parts (nat_lt 0 (length bytes) && nat_lt (length bytes) 256) (list_all is_visible bytes) h in
+    IsUtf8-from_ascii bytes (all_ascii is_visible visible_is_low bytes parts.1)
