@@ -95,10 +95,16 @@ results_member associative results = key (codes "results") ∷ array_of (flat_ma
 
 -- ---- replies
 
+-- whether a server is the leader that is known, and whether it votes
+unfoldable pub server_flags : Bool → Bool → List Token
+server_flags leads votes = key (codes "leader") ∷ boolean leads ∷ key (codes "voter") ∷ boolean votes ∷ []
+
+unfoldable pub server_members : List ℕ → Bool → Bool → List Token
+server_members address leads votes = key (codes "addr") ∷ string address ∷ server_flags leads votes
+
 -- a server, its id as the key
 abbrev pub server_tokens : Member × Bool → List Token
-server_tokens server =
-    key server.0.id ∷ object_of (key (codes "addr") ∷ string server.0.http ∷ key (codes "leader") ∷ boolean server.1 ∷ key (codes "voter") ∷ boolean server.0.voter ∷ [])
+server_tokens server = key server.0.id ∷ object_of (server_members server.0.http server.1 server.0.voter)
 
 -- the members of the one object that a reply in JSON is; servers stand in their list's order
 abbrev pub reply_members : Bool → Say → List Token
