@@ -1,0 +1,203 @@
+//! Nodes and the packets between them. A packet is spelled when it is sent, and read when it comes in.
+use crate::line::{Line, What};
+use rq_core::Core;
+use rq_log::{Moves, Outgoing, Saying};
+use rq_packets::{decode_packet, encode_outgoing};
+use rq_values::{Addr, Bytes, Id, Seq};
+use rq_wire::{Body, Config, Entry, Member};
+use std::alloc::Global;
+use std::test::Fail;
+
+const NAMES: [&[u8]; 5] = [b"n1", b"n2", b"n3", b"n4", b"n5"];
+
+/// The id of a node; nodes are counted from 1.
+pub fn id_of(node: usize) -> Option<Id> {
+    match NAMES.get(node.saturating_sub(1)) {
+        Some(name) => Id::new(name),
+        None => None,
+    }
+}
+
+/// The node with that id, or 0.
+fn node_of(id: Id) -> usize {
+    let mut node = 0_usize;
+    for name in &NAMES {
+        node = node.saturating_add(1);
+        if id.bytes() == *name {
+            return node;
+        }
+    }
+    0
+}
+
+fn member(alloc: Global, node: usize) -> Result<Member, Fail> {
+    let id = id_of(node).ok_or("no id")?;
+    let http = Addr::new(alloc, b"n:4001")?.ok_or("no address")?;
+    let raft = Addr::new(alloc, b"n:4002")?.ok_or("no address")?;
+    Ok(Member {
+        id,
+        voter: true,
+        http,
+        raft,
+    })
+}
+
+/// The first so many nodes, all of them voters.
+fn voters(alloc: Global, count: usize) -> Result<Config, Fail> {
+    let mut members = Seq::new(alloc);
+    for node in 0..count {
+        members.push(member(alloc, node.saturating_add(1))?)?;
+    }
+    Ok(Config::new(members).ok_or("ids that don't rise")?)
+}
+
+/// What is sent, as a line.
+fn line_of(packet: &Outgoing) -> Line {
+    let to = node_of(packet.to);
+    match packet.saying {
+        Saying::VoteAsk {
+            last_index,
+            last_term,
+        } => (What::Asks, to, [last_index, last_term, 0, 0]),
+        Saying::VoteSay { granted } => {
+            let what = if granted { What::Grants } else { What::Refuses };
+            (what, to, [0; 4])
+        }
+        Saying::Append {
+            prev,
+            prev_term,
+            commit,
+            probe: _,
+            count,
+        } => (What::Sends, to, [prev, prev_term, commit, count as u64]),
+        Saying::AppendSay { ok, at, probe: _ } => {
+            let what = if ok { What::Has } else { What::Lacks };
+            (what, to, [at, 0, 0, 0])
+        }
+    }
+}
+
+/// Nodes, every packet that was sent, and what came of the last events.
+pub struct Net {
+    pub cores: Vec<Core<Entry>>,
+    pub packets: Vec<Vec<u8>>,
+    pub seen: Vec<Line>,
+}
+
+impl Drop for Net {
+    fn drop(self) {
+        let Net {
+            cores,
+            packets,
+            seen,
+        } = self;
+        drop(cores);
+        drop(packets);
+        drop(seen);
+    }
+}
+
+impl Net {
+    /// So many nodes, in that term, with empty logs.
+    pub fn new(alloc: Global, count: usize, term: u64) -> Result<Net, Fail> {
+        let mut cores = Vec::new(alloc);
+        for node in 0..count {
+            let id = id_of(node.saturating_add(1)).ok_or("no id")?;
+            let first = voters(alloc, count)?;
+            cores.push(Core::new(id, first, term, None, Vec::new(alloc)))?;
+        }
+        Ok(Net {
+            cores,
+            packets: Vec::new(alloc),
+            seen: Vec::new(alloc),
+        })
+    }
+
+    /// What a node leaves is stored and sent.
+    fn took(&mut self, alloc: Global, node: usize, moves: &Moves) -> Result<(), Fail> {
+        let core = self.cores.get(node.saturating_sub(1)).ok_or("no node")?;
+        if moves.vote {
+            self.seen.push((What::Votes, 0, [0; 4]))?;
+        }
+        if let Some(from) = moves.splice {
+            let count = core.entries_from(from).len();
+            self.seen
+                .push((What::Stores, 0, [from, count as u64, 0, 0]))?;
+        }
+        for packet in moves.packets.as_slice() {
+            let entries = match packet.saying {
+                Saying::Append {
+                    prev,
+                    prev_term: _,
+                    commit: _,
+                    probe: _,
+                    count,
+                } => core.entries_of(prev, count),
+                _ => core.entries_of(0, 0),
+            };
+            let mut bytes = Vec::new(alloc);
+            encode_outgoing(packet, entries, &mut bytes)?;
+            self.packets.push(bytes)?;
+            self.seen.push(line_of(packet))?;
+        }
+        Ok(())
+    }
+
+    /// The packet of that number comes in, again if it came before. Answers the node to which it is.
+    pub fn deliver(&mut self, alloc: Global, number: usize) -> Result<usize, Fail> {
+        let bytes = self
+            .packets
+            .get(number.saturating_sub(1))
+            .ok_or("no packet")?;
+        let packet = decode_packet::<Entry>(alloc, bytes)?;
+        let node = node_of(packet.to);
+        let core = self.cores.get_mut(node.saturating_sub(1)).ok_or("no node")?;
+        let moves = core.deliver(packet, 0)?;
+        let took = self.took(alloc, node, &moves);
+        drop(moves);
+        took?;
+        Ok(node)
+    }
+
+    pub fn elect(&mut self, alloc: Global, node: usize) -> Result<(), Fail> {
+        let core = self.cores.get_mut(node.saturating_sub(1)).ok_or("no node")?;
+        let moves = core.elect()?;
+        let took = self.took(alloc, node, &moves);
+        drop(moves);
+        took
+    }
+
+    pub fn beat(&mut self, alloc: Global, node: usize) -> Result<(), Fail> {
+        let core = self.cores.get_mut(node.saturating_sub(1)).ok_or("no node")?;
+        let moves = core.beat()?;
+        let took = self.took(alloc, node, &moves);
+        drop(moves);
+        took
+    }
+
+    /// An entry with that number as its command.
+    pub fn propose(&mut self, alloc: Global, node: usize, number: u64) -> Result<(), Fail> {
+        let core = self.cores.get_mut(node.saturating_sub(1)).ok_or("no node")?;
+        let data = Bytes::new(alloc, &number.to_le_bytes())?;
+        let moves = core.propose(Entry {
+            term: core.last_term(),
+            body: Body::Data(data),
+        })?;
+        let took = self.took(alloc, node, &moves);
+        drop(moves);
+        took
+    }
+
+    /// How a node stands: whether it leads, its last index, the term there, its commit index.
+    pub fn stands(&self, node: usize) -> Option<[u64; 4]> {
+        match self.cores.get(node.saturating_sub(1)) {
+            Some(core) => Some([
+                u64::from(core.leads()),
+                core.last(),
+                core.last_term(),
+                core.commit(),
+            ]),
+            None => None,
+        }
+    }
+}
