@@ -14,11 +14,11 @@ pub enum BodyError {
     /// The value is no list.
     NotAList,
     /// So many statements, more than a body may have.
-    TooMany(usize),
+    TooMany(u64),
     /// The statement of this number, from 1.
-    BadStatement(usize),
+    BadStatement(u64),
     /// The statement of this number and its value of that number, each from 1.
-    BadValue(usize, usize),
+    BadValue(u64, u64),
     NoMemory,
 }
 
@@ -58,7 +58,7 @@ fn append(bytes: &[u8], into: &mut Vec<u8>) -> Result<(), NoMemory>
     Ok(())
 }
 
-fn append_count(alloc: Global, count: usize, into: &mut Vec<u8>) -> Result<(), NoMemory>
+fn append_count(alloc: Global, count: u64, into: &mut Vec<u8>) -> Result<(), NoMemory>
     ensures ok { OnOk result (into.new.items ≡ into.old.items ++ error_text (TooMany count)) }
     ensures err { OnErr result (into.new.items ≡ into.old.items) }
 {
@@ -66,7 +66,7 @@ fn append_count(alloc: Global, count: usize, into: &mut Vec<u8>) -> Result<(), N
     append(text.as_bytes(), into)
 }
 
-fn append_statement(alloc: Global, k: usize, into: &mut Vec<u8>) -> Result<(), NoMemory>
+fn append_statement(alloc: Global, k: u64, into: &mut Vec<u8>) -> Result<(), NoMemory>
     ensures ok { OnOk result (into.new.items ≡ into.old.items ++ error_text (BadStatement k)) }
     ensures err { OnErr result (into.new.items ≡ into.old.items) }
 {
@@ -74,7 +74,7 @@ fn append_statement(alloc: Global, k: usize, into: &mut Vec<u8>) -> Result<(), N
     append(text.as_bytes(), into)
 }
 
-fn append_value(alloc: Global, k: usize, j: usize, into: &mut Vec<u8>) -> Result<(), NoMemory>
+fn append_value(alloc: Global, k: u64, j: u64, into: &mut Vec<u8>) -> Result<(), NoMemory>
     ensures ok { OnOk result (into.new.items ≡ into.old.items ++ error_text (BadValue k j)) }
     ensures err { OnErr result (into.new.items ≡ into.old.items) }
 {

@@ -67,7 +67,7 @@ fn from_items(
     let count = items.len();
     if count > MOST {
         drop(items);
-        return Ok(Err(BodyError::TooMany(count)));
+        return Ok(Err(BodyError::TooMany(count as u64)));
     }
     each_statement(alloc, items)
 }
@@ -80,7 +80,7 @@ fn each_statement(
 {
     let mut statements = Vec::with_capacity(alloc, items.len())?;
     for item in items {
-        let number = statements.len() + 1;
+        let number = statements.len() as u64 + 1;
         match statement_of(alloc, number, item)? {
             Ok(statement) => statements.push(statement)?,
             Err(error) => return Ok(Err(error)),
@@ -92,7 +92,7 @@ fn each_statement(
 /// The statement of this number.
 fn statement_of(
     alloc: Global,
-    number: usize,
+    number: u64,
     json: Json,
 ) -> Result<Result<Statement, BodyError>, NoMemory>
     ensures { IfOk result (λ answer. answer ≡ spec.statement_of number (view json)) }
@@ -108,7 +108,7 @@ fn statement_of(
 }
 
 /// A statement that is a text alone.
-fn plain(number: usize, text: String) -> Result<Statement, BodyError>
+fn plain(number: u64, text: String) -> Result<Statement, BodyError>
     ensures { result ≡ spec.plain number (string_bytes text) }
 {
     match Text::from_string(text) {
@@ -123,7 +123,7 @@ fn plain(number: usize, text: String) -> Result<Statement, BodyError>
 /// A statement that is a list: its text, and what is given for its parameters.
 fn with_values(
     alloc: Global,
-    number: usize,
+    number: u64,
     mut items: Vec<Json>,
 ) -> Result<Result<Statement, BodyError>, NoMemory>
     ensures { IfOk result (λ answer. answer ≡ spec.with_values number (items_view items.items)) }
@@ -173,7 +173,7 @@ fn text_of(json: Json) -> Option<Text>
 /// What stands behind a statement's text: one object of named values, or values.
 fn params_of(
     alloc: Global,
-    number: usize,
+    number: u64,
     mut items: Vec<Json>,
 ) -> Result<Result<Params, BodyError>, NoMemory>
     ensures { IfOk result (λ answer. answer ≡ spec.params_of number (items_view items.items)) }
@@ -193,11 +193,7 @@ fn params_of(
     }
 }
 
-fn one_value(
-    alloc: Global,
-    number: usize,
-    json: Json,
-) -> Result<Result<Params, BodyError>, NoMemory>
+fn one_value(alloc: Global, number: u64, json: Json) -> Result<Result<Params, BodyError>, NoMemory>
     ensures { IfOk result (λ answer. answer ≡ spec.listed_params number (item (view json) no_items)) }
 {
     match value_of(json) {
@@ -212,7 +208,7 @@ fn one_value(
 
 fn values(
     alloc: Global,
-    number: usize,
+    number: u64,
     items: Vec<Json>,
 ) -> Result<Result<Params, BodyError>, NoMemory>
     ensures { IfOk result (λ answer. answer ≡ spec.listed_params number (items_view items.items)) }
@@ -221,7 +217,7 @@ fn values(
     for item in items {
         match value_of(item) {
             Some(value) => found.push(value)?,
-            None => return Ok(Err(BodyError::BadValue(number, found.len() + 1))),
+            None => return Ok(Err(BodyError::BadValue(number, found.len() as u64 + 1))),
         }
     }
     Ok(Ok(Params::List(Seq::from_vec(found))))
@@ -229,7 +225,7 @@ fn values(
 
 fn named(
     alloc: Global,
-    number: usize,
+    number: u64,
     members: Map<String, Json>,
 ) -> Result<Result<Params, BodyError>, NoMemory>
     ensures { IfOk result (λ answer. answer ≡ spec.named_params number (members_view members.entries)) }
@@ -238,7 +234,7 @@ fn named(
     for (name, item) in members {
         match named_value(name, item) {
             Some(pair) => found.push(pair)?,
-            None => return Ok(Err(BodyError::BadValue(number, found.len() + 1))),
+            None => return Ok(Err(BodyError::BadValue(number, found.len() as u64 + 1))),
         }
     }
     Ok(Ok(Params::Named(Seq::from_vec(found))))

@@ -1,28 +1,31 @@
 //! Bodies, and what they ask.
-use rq_bodies::{BodyError, parse_list};
+use rq_bodies::parse_list;
 use rq_request::{Params, Statement};
 use rq_values::Value;
 use std::alloc::Global;
 use std::test::Fail;
 
-/// A body, and its statements as `shown` has them or its refusal.
-const BODIES: [(&str, &str); 62] = [
+/// A body, and its statements as `show` has them or the text of its refusal.
+const BODIES: [(&str, &str); 79] = [
     ("[]", ""),
     (" [ ] ", ""),
     ("[\"SELECT 1\"]", "SELECT 1;"),
     ("[\"a\",\"b\"]", "a;b;"),
-    ("[[\"a\"]]", "a();"),
+    ("[[\"a\"]]", "a);"),
     ("[[\"a\",1,null,true,false,\"x\"]]", "a(1 null 1 0 'x');"),
     (
         "[[\"a\",-9223372036854775808,9223372036854775807]]",
         "a(-9223372036854775808 9223372036854775807);",
     ),
     ("[[\"a\",0]]", "a(0);"),
-    ("[[\"a\",{}]]", "a{};"),
+    ("[[\"a\",{}]]", "a};"),
     ("[[\"a\",{\"b\":1,\"a\":\"x\"}]]", "a{a='x' b=1};"),
     ("[[\"a\",{\"b\":1,\"a\":2,\"b\":3}]]", "a{a=2 b=3};"),
     ("[[\"a\",{\"b\":{},\"b\":3}]]", "a{b=3};"),
-    ("[[\"a\",{\"b\":3,\"b\":{}}]]", "BadValue(1, 1)"),
+    (
+        "[[\"a\",{\"b\":3,\"b\":{}}]]",
+        "statement 1, value 1: not a value",
+    ),
     ("[[\"a\",{\"\":1}]]", "a{=1};"),
     (
         "[[\"a\",{\"B\":1,\"a\":2,\"\u{e9}\":3}]]",
@@ -32,78 +35,132 @@ const BODIES: [(&str, &str); 62] = [
     ("[\"\\u00e9\"]", "\u{e9};"),
     ("[\"\\ud83d\\ude00\"]", "\u{1f600};"),
     ("[\"a\\nb\"]", "a\nb;"),
-    ("", "NotJson"),
-    (" ", "NotJson"),
-    ("[", "NotJson"),
-    ("]", "NotJson"),
-    ("[]]", "NotJson"),
-    ("[] []", "NotJson"),
-    ("[\"a\",]", "NotJson"),
-    ("[,\"a\"]", "NotJson"),
-    ("[\"a\" \"b\"]", "NotJson"),
-    ("['a']", "NotJson"),
-    ("[\"a]", "NotJson"),
-    ("[\"a\nb\"]", "NotJson"),
-    ("[\"\\x\"]", "NotJson"),
-    ("[\"\\ud83d\"]", "NotJson"),
-    ("[01]", "NotJson"),
-    ("[1.]", "NotJson"),
-    ("[+1]", "NotJson"),
-    ("[NaN]", "NotJson"),
-    ("[1e400]", "NotJson"),
-    ("[5,1e400]", "NotJson"),
-    ("{\"a\":1", "NotJson"),
-    ("{\"a\":1}", "NotAList"),
-    ("\"SELECT 1\"", "NotAList"),
-    ("null", "NotAList"),
-    ("1", "NotAList"),
-    ("true", "NotAList"),
-    ("[\"SELECT 1\",5]", "BadStatement(2)"),
-    ("[null]", "BadStatement(1)"),
-    ("[{}]", "BadStatement(1)"),
-    ("[[]]", "BadStatement(1)"),
-    ("[[5]]", "BadStatement(1)"),
-    ("[[[\"a\"]]]", "BadStatement(1)"),
-    ("[\"a\\u0000b\"]", "BadStatement(1)"),
-    ("[[\"a\\u0000b\",1.5]]", "BadStatement(1)"),
-    ("[[\"a\",1.5]]", "BadValue(1, 1)"),
-    ("[[\"a\",1,{\"a\":1}]]", "BadValue(1, 2)"),
-    ("[[\"a\",{\"a\":1},1]]", "BadValue(1, 1)"),
-    ("[\"a\",[\"b\",1,[]],5]", "BadValue(2, 2)"),
-    ("[[\"a\",9223372036854775808]]", "BadValue(1, 1)"),
-    ("[[\"a\",-0]]", "BadValue(1, 1)"),
-    ("[[\"a\",1e2]]", "BadValue(1, 1)"),
-    ("[[\"a\",{\"b\":1.5,\"a\":{},\"c\":1}]]", "BadValue(1, 1)"),
-    ("[[\"a\",{\"a\":1,\"b\\u0000\":1}]]", "BadValue(1, 2)"),
+    ("", "body is not JSON"),
+    (" ", "body is not JSON"),
+    ("[", "body is not JSON"),
+    ("]", "body is not JSON"),
+    ("[]]", "body is not JSON"),
+    ("[] []", "body is not JSON"),
+    ("[\"a\",]", "body is not JSON"),
+    ("[,\"a\"]", "body is not JSON"),
+    ("[\"a\" \"b\"]", "body is not JSON"),
+    ("['a']", "body is not JSON"),
+    ("[\"a]", "body is not JSON"),
+    ("[\"a\nb\"]", "body is not JSON"),
+    ("[\"\\x\"]", "body is not JSON"),
+    ("[\"\\ud83d\"]", "body is not JSON"),
+    ("[01]", "body is not JSON"),
+    ("[1.]", "body is not JSON"),
+    ("[+1]", "body is not JSON"),
+    ("[NaN]", "body is not JSON"),
+    ("[1e400]", "body is not JSON"),
+    ("[5,1e400]", "body is not JSON"),
+    ("{\"a\":1", "body is not JSON"),
+    ("{\"a\":1}", "body is not a list"),
+    ("\"SELECT 1\"", "body is not a list"),
+    ("null", "body is not a list"),
+    ("1", "body is not a list"),
+    ("true", "body is not a list"),
+    ("[\"SELECT 1\",5]", "statement 2: not a statement"),
+    ("[null]", "statement 1: not a statement"),
+    ("[{}]", "statement 1: not a statement"),
+    ("[[]]", "statement 1: not a statement"),
+    ("[[5]]", "statement 1: not a statement"),
+    ("[[[\"a\"]]]", "statement 1: not a statement"),
+    ("[\"a\\u0000b\"]", "statement 1: not a statement"),
+    ("[[\"a\\u0000b\",1.5]]", "statement 1: not a statement"),
+    ("[[\"a\",1.5]]", "statement 1, value 1: not a value"),
+    ("[[\"a\",1,{\"a\":1}]]", "statement 1, value 2: not a value"),
+    ("[[\"a\",{\"a\":1},1]]", "statement 1, value 1: not a value"),
+    (
+        "[\"a\",[\"b\",1,[]],5]",
+        "statement 2, value 2: not a value",
+    ),
+    (
+        "[[\"a\",9223372036854775808]]",
+        "statement 1, value 1: not a value",
+    ),
+    ("[[\"a\",-0]]", "statement 1, value 1: not a value"),
+    ("[[\"a\",1e2]]", "statement 1, value 1: not a value"),
+    (
+        "[[\"a\",{\"b\":1.5,\"a\":{},\"c\":1}]]",
+        "statement 1, value 1: not a value",
+    ),
+    (
+        "[[\"a\",{\"a\":1,\"b\\u0000\":1}]]",
+        "statement 1, value 2: not a value",
+    ),
+    ("[[\"a\",1.0]]", "statement 1, value 1: not a value"),
+    ("[[\"a\",1E2]]", "statement 1, value 1: not a value"),
+    (
+        "[[\"a\",-9223372036854775809]]",
+        "statement 1, value 1: not a value",
+    ),
+    ("[[\"a\",[1]]]", "statement 1, value 1: not a value"),
+    ("[[\"a\",null,{}]]", "statement 1, value 2: not a value"),
+    (
+        "[[\"a\",\"x\\u0000\"]]",
+        "statement 1, value 1: not a value",
+    ),
+    (
+        "[[\"a\",{\"a\":[]}],5]",
+        "statement 1, value 1: not a value",
+    ),
+    ("[5,[\"a\",[]]]", "statement 1: not a statement"),
+    ("[[\"a\",{\"a\":1,\"\\u0061\":2}]]", "a{a=2};"),
+    ("\t[\r\n\"\\/\" ] ", "/;"),
+    ("\u{feff}[]", "body is not JSON"),
+    ("[\"a\"]\u{0}", "body is not JSON"),
+    ("[tru]", "body is not JSON"),
+    (
+        "[\"SELECT 1\", [\"INSERT INTO t VALUES (?, ?)\", \"fiona\", 20]]",
+        "SELECT 1;INSERT INTO t VALUES (?, ?)('fiona' 20);",
+    ),
+    (
+        "[[\"SELECT :a\", {\"b\": 1, \"a\": null}]]",
+        "SELECT :a{a=null b=1};",
+    ),
+    (
+        "[[\"SELECT :a\", {\"a\": [], \"a\": 2}]]",
+        "SELECT :a{a=2};",
+    ),
+    (
+        "[[\"SELECT ?\", 1, 1.5]]",
+        "statement 1, value 2: not a value",
+    ),
 ];
 
 #[test]
 fn bodies_are_read(rt: HostRuntime) -> Result<(), Fail> {
     for (body, wanted) in BODIES {
-        let found = shown(rt.alloc(), body.as_bytes())?;
-        assert!(rt; found.as_str() == wanted, "{body}: {found}");
+        assert!(rt; is_shown(rt.alloc(), body.as_bytes(), wanted)?, "{body}");
     }
     Ok(())
 }
 
 #[test]
-fn counts_are_looked_at_before_items(rt: HostRuntime) -> Result<(), Fail> {
+fn counts_and_depths_are_looked_at(rt: HostRuntime) -> Result<(), Fail> {
     let alloc = rt.alloc();
-    assert!(rt; shown(alloc, many(alloc, 10_000)?.as_slice())?.as_str() == "BadStatement(1)");
-    assert!(rt; shown(alloc, many(alloc, 10_001)?.as_slice())?.as_str() == "TooMany(10001)");
-    assert!(rt; shown(alloc, b"\xff")?.as_str() == "NotJson");
+    let many = [
+        (10_000, "statement 1: not a statement"),
+        (10_001, "too many statements: 10001"),
+    ];
+    for (count, wanted) in many {
+        assert!(rt; is_shown(alloc, zeros(alloc, count)?.as_slice(), wanted)?);
+    }
+    let deep = [
+        (127, "statement 1: not a statement"),
+        (128, "body is not JSON"),
+    ];
+    for (depth, wanted) in deep {
+        assert!(rt; is_shown(alloc, nested(alloc, depth)?.as_slice(), wanted)?);
+    }
+    assert!(rt; is_shown(alloc, b"[\"\xff\"]", "body is not JSON")?);
     Ok(())
 }
 
-#[test]
-fn depth_is_at_most_127(rt: HostRuntime) -> Result<(), Fail> {
-    let alloc = rt.alloc();
-    assert!(rt; shown(alloc, nested(alloc, 127)?.as_slice())?.as_str() == "BadStatement(1)");
-    assert!(rt; shown(alloc, nested(alloc, 128)?.as_slice())?.as_str() == "NotJson");
-    Ok(())
-}
-
-fn many(alloc: Global, count: u64) -> Result<Vec<u8>, Fail> {
+/// A list of so many zeros.
+fn zeros(alloc: Global, count: u64) -> Result<Vec<u8>, Fail> {
     let mut body = Vec::from_slice(alloc, b"[0")?;
     for _ in 1..count {
         body.extend_from_slice(b",0")?;
@@ -112,6 +169,7 @@ fn many(alloc: Global, count: u64) -> Result<Vec<u8>, Fail> {
     Ok(body)
 }
 
+/// A list in a list, so many deep.
 fn nested(alloc: Global, depth: u64) -> Result<Vec<u8>, Fail> {
     let mut body = Vec::new(alloc);
     for _ in 0..depth {
@@ -123,68 +181,57 @@ fn nested(alloc: Global, depth: u64) -> Result<Vec<u8>, Fail> {
     Ok(body)
 }
 
-fn shown(alloc: Global, body: &[u8]) -> Result<String, Fail> {
+/// Whether the body lists these statements, each with what is given for its parameters, or has a refusal of this text.
+fn is_shown(alloc: Global, body: &[u8], wanted: &str) -> Result<bool, Fail> {
+    let mut text = Vec::new(alloc);
     match parse_list(alloc, body) {
         Ok(list) => {
-            let mut text = String::new(alloc);
             for statement in list.as_slice() {
-                show(statement, &mut text)?;
+                show(alloc, statement, &mut text)?;
             }
-            Ok(text)
         }
-        Err(BodyError::NotJson) => Ok(String::from_str(alloc, "NotJson")?),
-        Err(BodyError::NotAList) => Ok(String::from_str(alloc, "NotAList")?),
-        Err(BodyError::TooMany(n)) => Ok(format!(in alloc; "TooMany({n})")?),
-        Err(BodyError::BadStatement(k)) => Ok(format!(in alloc; "BadStatement({k})")?),
-        Err(BodyError::BadValue(k, j)) => Ok(format!(in alloc; "BadValue({k}, {j})")?),
-        Err(BodyError::NoMemory) => Ok(String::from_str(alloc, "NoMemory")?),
+        Err(error) => error.write(alloc, &mut text)?,
     }
+    Ok(text.as_slice() == wanted.as_bytes())
 }
 
-fn show(statement: &Statement, text: &mut String) -> Result<(), Fail> {
-    text.push_str(statement.text.as_str())?;
+fn show(alloc: Global, statement: &Statement, text: &mut Vec<u8>) -> Result<(), Fail> {
+    text.extend_from_slice(statement.text.bytes())?;
     match &statement.params {
         Params::None => {}
         Params::List(values) => {
-            text.push_str("(")?;
-            let mut between = "";
+            let mut before: &[u8] = b"(";
             for value in values.as_slice() {
-                text.push_str(between)?;
-                show_value(value, text)?;
-                between = " ";
+                text.extend_from_slice(before)?;
+                show_value(alloc, value, text)?;
+                before = b" ";
             }
-            text.push_str(")")?;
+            text.extend_from_slice(b")")?;
         }
-        Params::Named(pairs) => {
-            text.push_str("{")?;
-            let mut between = "";
-            for pair in pairs.as_slice() {
-                text.push_str(between)?;
-                text.push_str(pair.0.as_str())?;
-                text.push_str("=")?;
-                show_value(&pair.1, text)?;
-                between = " ";
+        Params::Named(values) => {
+            let mut before: &[u8] = b"{";
+            for pair in values.as_slice() {
+                text.extend_from_slice(before)?;
+                text.extend_from_slice(pair.0.bytes())?;
+                text.extend_from_slice(b"=")?;
+                show_value(alloc, &pair.1, text)?;
+                before = b" ";
             }
-            text.push_str("}")?;
+            text.extend_from_slice(b"}")?;
         }
     }
-    text.push_str(";")?;
+    text.extend_from_slice(b";")?;
     Ok(())
 }
 
-fn show_value(value: &Value, text: &mut String) -> Result<(), Fail> {
+fn show_value(alloc: Global, value: &Value, text: &mut Vec<u8>) -> Result<(), Fail> {
     match value {
-        Value::Null => text.push_str("null")?,
-        Value::Int(n) => {
-            let alloc = *text.allocator();
-            text.push_str(format!(in alloc; "{n}")?.as_str())?;
-        }
+        Value::Null => text.extend_from_slice(b"null")?,
+        Value::Int(n) => text.extend_from_slice(format!(in alloc; "{n}")?.as_bytes())?,
         Value::Text(inner) => {
-            text.push_str("'")?;
-            text.push_str(inner.as_str())?;
-            text.push_str("'")?;
+            text.extend_from_slice(format!(in alloc; "'{}'", inner.as_str())?.as_bytes())?;
         }
-        Value::Blob(_) => text.push_str("blob")?,
+        Value::Blob(_) => text.extend_from_slice(b"blob")?,
     }
     Ok(())
 }
