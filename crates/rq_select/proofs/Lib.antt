@@ -1,0 +1,5 @@
+pub mod Lists
+pub mod Viewing
+pub mod Plans
+pub mod OneAnswer
+pub mod Answering

@@ -1,0 +1,13 @@
+use Rattle.std.proofs.Common.{ap, subst, ◌∙◌, map, List, length}
+use Rattle.rq_eval.specs.Outcome.{Answers}
+use Rattle.rq_select.specs.Results.{Shown, table_source, spread}
+use Rattle.rq_select.specs.Select as spec
+use Rattle.rq_select.specs.Viewed.{shown}
+use Rattle.rq_select.proofs.selecting.selected_from_table.Goals as goal
+
+pub returns-in-Ok : goal.returns-in-Ok
+returns-in-Ok g c =
+    let t = g.T.TableView.means c.args.table.now in
+    subst (λ (ws : List Shown). Answers (spec.answered_by c.args.stmt.now (table_source t) ws) c.answered_from_table.result)
+    (ap (map shown) c.as_slice-in-Ok.ensures.value ∙ rw c.columns.ensures at c.in-Ok.ensures ∙ ap (spread (length t.columns)) c.as_slice.ensures)
+    c.answered_from_table.ensures

@@ -1,0 +1,64 @@
+//! WHERE.
+
+ghost use Rattle.std.specs.Prelude.{[], map, Ok};
+ghost use Rattle.rq_eval.specs.Names.{row_of};
+ghost use Rattle.rq_eval.specs.Operators.{condition};
+ghost use Rattle.rq_eval.specs.Outcome.{Answers, then_with};
+ghost use Rattle.rq_select.specs.Planned as planned;
+ghost use Rattle.rq_select.specs.Select as spec;
+
+use crate::pushing::push;
+use rq_eval::{EvalError, ResolvedExpr, RowView, StmtError, evaluate};
+use rq_values::Value;
+use std::alloc::Global;
+
+/// Whether a condition is true; NULL is not.
+fn is_true(value: &Value) -> Result<bool, EvalError>
+    ensures { Answers (spec.judged (Ok value.now)) result }
+{
+    match value {
+        Value::Null => Ok(false),
+        Value::Int(number) => Ok(*number != 0),
+        Value::Text(_) => Err(EvalError::Says(StmtError::NotCondition)),
+        Value::Blob(_) => Err(EvalError::Says(StmtError::NotCondition)),
+    }
+}
+
+pub fn passes(
+    alloc: Global,
+    filter: &Option<ResolvedExpr>,
+    row: &RowView<'_>,
+) -> Result<bool, EvalError>
+    ensures { Answers (planned.passes filter.now (row_of row.now)) result }
+{
+    match filter {
+        None => Ok(true),
+        Some(expr) => match evaluate(alloc, expr, row, &[]) {
+            Ok(value) => {
+                let is = is_true(&value);
+                drop(value);
+                is
+            }
+            Err(e) => Err(e),
+        },
+    }
+}
+
+/// The rows that pass, in their order.
+pub fn filtered<'r>(
+    alloc: Global,
+    filter: &Option<ResolvedExpr>,
+    rows: &[RowView<'r>],
+) -> Result<Vec<RowView<'r>>, EvalError>
+    ensures { planned.LeavesRows (spec.filtered (planned.passes filter.now) [] (map row_of rows.now)) result }
+{
+    let mut left = Vec::new(alloc);
+    for row in rows {
+        match passes(alloc, filter, row) {
+            Ok(true) => push(&mut left, *row)?,
+            Ok(false) => {}
+            Err(e) => return Err(e),
+        }
+    }
+    Ok(left)
+}

@@ -1,0 +1,24 @@
+//! SELECT over one table, or over none.
+//!
+//! What a SELECT answers stands in `specs/Select.antt` as a filter of the list of rows, their results and terms, an order and a cut; and in
+//! docs/SQL.md, "What SELECT answers".
+#![tactic(auto)]
+
+mod checking;
+mod filtering;
+mod headings;
+mod laws;
+mod planning;
+mod pushing;
+mod results;
+mod selecting;
+mod showing;
+mod sorting;
+mod table;
+mod terms;
+
+pub use checking::Allowed;
+pub use laws::one_select;
+pub use selecting::select;
+pub use sorting::{SortKey, SortTerm};
+pub use table::{Lookup, TableView};
