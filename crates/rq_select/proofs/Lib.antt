@@ -3,3 +3,5 @@ pub mod Viewing
 pub mod Plans
 pub mod OneAnswer
 pub mod Answering
+pub mod Picking
+pub mod Tests

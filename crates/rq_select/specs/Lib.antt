@@ -5,3 +5,4 @@ pub mod Sorting
 pub mod Select
 pub mod Viewed
 pub mod Planned
+pub mod Keys

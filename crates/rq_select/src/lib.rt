@@ -7,6 +7,7 @@
 mod checking;
 mod filtering;
 mod headings;
+mod keys;
 mod laws;
 mod planning;
 mod pushing;

@@ -11,6 +11,7 @@ ghost use Rattle.rq_select.specs.Table.{scope_of, rows_of};
 ghost use Rattle.rq_select.specs.Viewed.{shown};
 
 use crate::headings::{headings, types};
+use crate::keys::rows_for;
 use crate::planning::{Plan, plan_of};
 use crate::results::{Shown, spread};
 use crate::showing::rows_planned;
@@ -105,7 +106,7 @@ fn shown_of_table<T: TableView>(
 ) -> Result<Seq<Seq<Value>>, EvalError>
     ensures { Answers (planned.rows_planned plan.now (rows_of (T.means table.now))) result }
 {
-    match table.rows(alloc, None) {
+    match rows_for(alloc, &plan.filter, table) {
         Ok(rows) => rows_planned(alloc, plan, rows.as_slice()),
         Err(_) => Err(EvalError::NoMemory),
     }

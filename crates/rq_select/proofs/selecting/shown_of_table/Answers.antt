@@ -1,9 +1,10 @@
-use Rattle.std.proofs.Common.{ap, subst, ◌∙◌, map, List}
-use Rattle.rq_eval.specs.Names.{Row, row_of}
-use Rattle.rq_eval.specs.Outcome.{Answers}
+use Rattle.std.proofs.Common.{subst, map}
+use Rattle.rq_eval.specs.Outcome.{Answers, then_with}
 use Rattle.rq_select.specs.Planned as planned
+use Rattle.rq_select.specs.Select as spec
 use Rattle.rq_select.proofs.selecting.shown_of_table.Goals as goal
 
 pub returns-in-Ok : goal.returns-in-Ok
 returns-in-Ok g c =
-    subst (λ (rows : List Row). Answers (planned.rows_planned c.args.plan.now rows) c.rows_planned.result) (ap (map row_of) c.as_slice.ensures.value ∙ c.in-Ok.ensures) c.rows_planned.ensures
+    let plan = c.args.plan.now in
+    subst (λ o. Answers (then_with o (λ left. spec.shown_rows (planned.gives plan.results) (map planned.term_of plan.terms) plan.over_all plan.limit plan.offset left)) c.rows_planned.result) c.in-Ok.ensures (rw c.as_slice.ensures.value at c.rows_planned.ensures)
