@@ -1,0 +1,9 @@
+pub mod Nodes
+pub mod Carry
+pub mod Became
+pub mod Kept
+pub mod KeptStmt
+pub mod Closed
+pub mod ClosedStmt
+pub mod Stopping
+pub mod Whole

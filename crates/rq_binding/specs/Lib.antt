@@ -1,0 +1,9 @@
+pub mod Bound
+pub mod Drawn
+pub mod ErrorText
+pub mod Filled
+pub mod Nodes
+pub mod Plan
+pub mod Settles
+pub mod Statements
+pub mod Usable
