@@ -5,7 +5,6 @@ ghost use Rattle.std.specs.Option.{option_copied};
 ghost use Rattle.rq_engine.specs.Meaning as spec;
 ghost use Rattle.rq_engine.specs.Database as db;
 
-use crate::messages::decimal_text;
 use crate::table::{LAST_ROWID, Table};
 use rq_grammar::{ColumnDef, ColumnKind};
 use rq_values::{NoMemory, Seq, Text, TryCopy, Value};
@@ -174,10 +173,7 @@ fn read_integer(text: &Text) -> Option<i64>
     ensures value { IfSome result (λ number. number ≡ signed_digits_value 10 text.now) }
     ensures plain { IsTrue (spec.is_plain_integer text.now) → IsSome result }
 {
-    match std::str::from_utf8(text.bytes()) {
-        Ok(digits) => digits.parse::<i64>().ok(),
-        Err(_) => None,
-    }
+    text.as_str().parse::<i64>().ok()
 }
 
 fn is_spelled(number: i64, text: &Text) -> bool
@@ -208,7 +204,7 @@ fn stored_integer(alloc: Global, number: i64, kind: ColumnKind) -> Result<Option
 {
     match kind {
         ColumnKind::Integer => Ok(Some(Value::Int(number))),
-        ColumnKind::Text => Ok(Some(Value::Text(decimal_text(alloc, number)?))),
+        ColumnKind::Text => Ok(Some(Value::Text(Text::of_integer(alloc, number)?))),
         ColumnKind::Blob => Ok(None),
     }
 }

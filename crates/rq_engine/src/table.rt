@@ -3,7 +3,7 @@ ghost use Rattle.std.specs.Prelude.{◌≡◌, [], IfOk, OnOk, OnErr, map, pos, 
 ghost use Rattle.std.specs.Map.{values_of};
 ghost use Rattle.rq_engine.specs.Meaning as spec;
 
-use crate::messages::known_text;
+use crate::messages::plain_text;
 use rq_grammar::{ColumnDef, ColumnKind};
 use rq_values::{NoMemory, Seq, Text, TryCopy, Value};
 use std::alloc::Global;
@@ -132,8 +132,8 @@ fn type_text(alloc: Global, kind: ColumnKind) -> Result<Text, NoMemory>
     ensures { IfOk result (λ text. text ≡ spec.kind_name kind) }
 {
     match kind {
-        ColumnKind::Integer => known_text(alloc, b"integer"),
-        ColumnKind::Text => known_text(alloc, b"text"),
-        ColumnKind::Blob => known_text(alloc, b"blob"),
+        ColumnKind::Integer => plain_text(alloc, b"integer"),
+        ColumnKind::Text => plain_text(alloc, b"text"),
+        ColumnKind::Blob => plain_text(alloc, b"blob"),
     }
 }
