@@ -93,7 +93,7 @@ module _ (item_of : List ℕ → Item) (limit : ℕ) where
   ranked (Run statement) = (omega arith, refl)
   ranked (Fail error) = (omega arith, refl)
 
-  exact_item : IsExact (item_at item_of limit) item_bytes IsGiven
+  pub exact_item : IsExact (item_at item_of limit) item_bytes IsGiven
   unfolding item_at content_at
   exact_item =
       exact_same (item_at item_of limit) (λ item. rank_of item ∷ spelled_text item) item_bytes (λ item. IsKind 1 (rank_of item) × OfKind (rank_of item) item) IsGiven

@@ -1,3 +1,4 @@
+pub mod AnyCommand
 pub mod Exact
 pub mod Loop
 pub mod Statements

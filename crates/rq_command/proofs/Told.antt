@@ -52,10 +52,10 @@ one_answer one limit bytes answer other first second =
     ∙ sym second.is
 
 module _ (some : SomeItem) (limit : ℕ) (bytes : List ℕ) where
-  given : List ℕ → Item
+  pub given : List ℕ → Item
   given text = (some text).0
 
-  given_prepares : IsPreparing given
+  pub given_prepares : IsPreparing given
   unfolding given
   given_prepares text = (some text).1
 
@@ -75,15 +75,15 @@ stored_item : (item_of : List ℕ → Item) → IsPreparing item_of → (limit :
 stored_item item_of prepares limit (Run statement) p = record { short = p.0.0.0; text = p.0.1; stored = (read_as_given item_of prepares statement p.1).1 }
 stored_item item_of prepares limit (Fail error) p = record { short = p.0.0; text = p.1; stored = tt }
 
-stored_items : (item_of : List ℕ → Item) → IsPreparing item_of → (limit : ℕ) (items : List Item) → AreProper (IsGiven item_of limit) items → AreProper (IsItem limit) items
+pub stored_items : (item_of : List ℕ → Item) → IsPreparing item_of → (limit : ℕ) (items : List Item) → AreProper (IsGiven item_of limit) items → AreProper (IsItem limit) items
 stored_items item_of prepares limit [] p = tt
 stored_items item_of prepares limit (item ∷ items) p = (stored_item item_of prepares limit item p.0, stored_items item_of prepares limit items p.1)
 
-first_bytes : (a b : List ℕ) → AreBytes (a ++ b) → AreBytes a
+pub first_bytes : (a b : List ℕ) → AreBytes (a ++ b) → AreBytes a
 first_bytes [] b h = tt
 first_bytes (byte ∷ a) b h = (h.0, first_bytes a b h.1)
 
-last_bytes : (a b : List ℕ) → AreBytes (a ++ b) → AreBytes b
+pub last_bytes : (a b : List ℕ) → AreBytes (a ++ b) → AreBytes b
 last_bytes [] b h = h
 last_bytes (byte ∷ a) b h = last_bytes a b h.1
 
@@ -97,7 +97,7 @@ given_item one again item_of prepares limit small (Run statement) p all = (
 )
 given_item one again item_of prepares limit small (Fail error) p all = named limit error small p.short p.text (last_bytes (u32_bytes (length error)) error all.1)
 
-given_items : OneItem → Again → (item_of : List ℕ → Item) → IsPreparing item_of → (limit : ℕ) → limit < 2 ^ 32 → (items : List Item) → AreProper (IsItem limit) items → AreBytes (flat_map item_bytes items) → AreProper (IsGiven item_of limit) items
+pub given_items : OneItem → Again → (item_of : List ℕ → Item) → IsPreparing item_of → (limit : ℕ) → limit < 2 ^ 32 → (items : List Item) → AreProper (IsItem limit) items → AreBytes (flat_map item_bytes items) → AreProper (IsGiven item_of limit) items
 given_items one again item_of prepares limit small [] p all = tt
 given_items one again item_of prepares limit small (item ∷ items) p all = (
   given_item one again item_of prepares limit small item p.0 (first_bytes (item_bytes item) (flat_map item_bytes items) all),
@@ -106,22 +106,34 @@ given_items one again item_of prepares limit small (item ∷ items) p all = (
 
 -- ---- what an Ok tells, and where it comes
 
-abbrev read_with : List ℕ → List Item → Result (List Item × List ℕ) DecodeError
+abbrev pub read_with : {A : Type 0} → List ℕ → A → Result (A × List ℕ) DecodeError
 read_with rest items = Ok (items, rest)
 
 positive : (n : ℕ) → nat_lt 0 (suc n) ≡ true
 positive n = grind (arith, nat_tests)
 
-whole_alone : (total : ℕ) (items found : List Item) (rest : List ℕ) → Ok items ≡ whole_answer total (read_with rest found) → read_with rest found ≡ read_with [] items
+whole_alone : {A : Type 0} (total : ℕ) (items found : A) (rest : List ℕ) → Ok items ≡ whole_answer total (read_with rest found) → read_with rest found ≡ read_with [] items
 whole_alone total items found [] h = let same : found ≡ items = cc in ap (read_with []) same
-whole_alone total items found (byte ∷ rest) h =
-    let refused : Ok items ≡ Err (errors.Trailing (total - length (byte ∷ rest))) = h ∙ ap (λ b. cond {A = Result (List Item) DecodeError} b (Err (errors.Trailing (total - length (byte ∷ rest)))) (Ok found)) (positive (length rest)) in
+whole_alone {A} total items found (byte ∷ rest) h =
+    let refused : Ok items ≡ Err (errors.Trailing (total - length (byte ∷ rest))) = h ∙ ap (λ b. cond {A = Result A DecodeError} b (Err (errors.Trailing (total - length (byte ∷ rest)))) (Ok found)) (positive (length rest)) in
     absurd (cc)
 
--- the items of an answer stood alone
-whole_ok : (total : ℕ) (read : Result (List Item × List ℕ) DecodeError) (items : List Item) → Ok items ≡ whole_answer total read → read ≡ read_with [] items
+-- what was answered stood alone
+pub whole_ok : {A : Type 0} (total : ℕ) (read : Result (A × List ℕ) DecodeError) (items : A) → Ok items ≡ whole_answer total read → read ≡ read_with [] items
 whole_ok total (Ok x) items h = whole_alone total items x.0 x.1 h
 whole_ok total (Err wrong) items h = absurd (cc)
+
+pub answered : {A : Type 0} (result answer : Result A DecodeError) (items : A) → answer ≡ Ok items → IsAnswer result answer → (result ≡ Ok items) ⊎ (result ≡ Err errors.NoMemory)
+answered (Ok found) answer items is h = inl (h ∙ is)
+answered (Err (errors.Short place)) answer items is h = inl (h ∙ is)
+answered (Err (errors.Kind place byte)) answer items is h = inl (h ∙ is)
+answered (Err (errors.Long place len)) answer items is h = inl (h ∙ is)
+answered (Err (errors.NotText place)) answer items is h = inl (h ∙ is)
+answered (Err (errors.Order place)) answer items is h = inl (h ∙ is)
+answered (Err (errors.Rule place)) answer items is h = inl (h ∙ is)
+answered (Err (errors.Text place)) answer items is h = inl (h ∙ is)
+answered (Err (errors.Trailing place)) answer items is h = inl (h ∙ is)
+answered (Err errors.NoMemory) answer items is h = inr refl
 
 pub all_bytes : (bytes : List ℕ) → ((i : ℕ) → Fits w8 (get_or bytes i 0)) → AreBytes bytes
 all_bytes [] fits = tt
@@ -141,18 +153,6 @@ module _ (some : SomeItem) (limit : ℕ) (bytes : List ℕ) (all : AreBytes byte
   taken (Err e) h = tt
 
   module _ (one : OneItem) (again : Again) (small : limit < 2 ^ 32) where
-    answered : (result answer : Result (List Item) DecodeError) (items : List Item) → answer ≡ Ok items → IsAnswer result answer → (result ≡ Ok items) ⊎ (result ≡ Err errors.NoMemory)
-    answered (Ok found) answer items is h = inl (h ∙ is)
-    answered (Err (errors.Short place)) answer items is h = inl (h ∙ is)
-    answered (Err (errors.Kind place byte)) answer items is h = inl (h ∙ is)
-    answered (Err (errors.Long place len)) answer items is h = inl (h ∙ is)
-    answered (Err (errors.NotText place)) answer items is h = inl (h ∙ is)
-    answered (Err (errors.Order place)) answer items is h = inl (h ∙ is)
-    answered (Err (errors.Rule place)) answer items is h = inl (h ∙ is)
-    answered (Err (errors.Text place)) answer items is h = inl (h ∙ is)
-    answered (Err (errors.Trailing place)) answer items is h = inl (h ∙ is)
-    answered (Err errors.NoMemory) answer items is h = inr refl
-
     pub found : (result : Result (List Item) DecodeError) → IsAnswerByEach limit bytes result → (items : List Item) → bytes ≡ execute_bytes items → IsCommand limit items → (result ≡ Ok items) ⊎ (result ≡ Err errors.NoMemory)
     found result h items is command =
         let item_of = given some limit bytes in

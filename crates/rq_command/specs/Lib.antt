@@ -1,3 +1,4 @@
+pub mod Commands
 pub mod Reading
 pub mod Stored
 pub mod Whole

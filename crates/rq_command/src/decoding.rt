@@ -44,7 +44,11 @@ fn next_run(alloc: Global, limit: u32, bytes: &[u8]) -> Result<(Item, &[u8]), De
 
 /// An item: 00 and a statement, or 01 and an error's text.
 #[tactic(auto, unfolding(crate::specs::Reading::item_at))]
-fn next_item(alloc: Global, limit: u32, bytes: &[u8]) -> Result<(Item, &[u8]), DecodeError>
+pub(crate) fn next_item(
+    alloc: Global,
+    limit: u32,
+    bytes: &[u8],
+) -> Result<(Item, &[u8]), DecodeError>
     ensures { (item_of : List ℕ → Item) → IsPreparing item_of → Gives (λ x. (x.0, x.1.now)) result (item_at item_of limit bytes.now) }
 {
     let (kind, rest) = next_kind(1, bytes)?;
@@ -56,7 +60,7 @@ fn next_item(alloc: Global, limit: u32, bytes: &[u8]) -> Result<(Item, &[u8]), D
 }
 
 /// So many items.
-fn next_items(
+pub(crate) fn next_items(
     alloc: Global,
     limit: u32,
     count: u32,

@@ -1,5 +1,6 @@
 //! The laws of what commands say: contracts of functions that do no work.
 ghost use Rattle.std.specs.Prelude.{◌≡◌, ℕ, List, All};
+ghost use Rattle.rq_command.specs.Commands.{IsDecoded};
 ghost use Rattle.rq_command.specs.Reading.{IsReadAs};
 ghost use Rattle.rq_command.specs.Stored.{IsReadable};
 ghost use Rattle.rq_command.specs.Whole.{Decodes};
@@ -23,6 +24,15 @@ pub fn each_text_is_read_as_one()
 pub fn each_command_has_one_answer()
     ensures some { (limit : ℕ) (bytes : List ℕ) → (answer : _) × Decodes limit bytes answer }
     ensures one { (limit : ℕ) (bytes : List ℕ) (answer other : _) → Decodes limit bytes answer → Decodes limit bytes other → answer ≡ other }
+{
+    each_text_is_read_as_one();
+}
+
+/// Each input has one answer, whatever kind of command it spells.
+#[tactic(auto, using(crate::proofs::AnyCommand::some_command, crate::proofs::AnyCommand::one_command))]
+pub fn each_input_is_decoded_as_one()
+    ensures some { (limit : ℕ) (bytes : List ℕ) → (answer : _) × IsDecoded limit bytes answer }
+    ensures one { (limit : ℕ) (bytes : List ℕ) (answer other : _) → IsDecoded limit bytes answer → IsDecoded limit bytes other → answer ≡ other }
 {
     each_text_is_read_as_one();
 }
