@@ -7,7 +7,7 @@ use Rattle.rq_node.specs.Node.{Node, Turn}
 use Rattle.rq_node.specs.Rules.{execute, query}
 use Rattle.rq_script.specs.Cluster.{Server, Cluster, Course, whole, Written, happens_at, event_at, ask_at, done, step, Steps}
 use Rattle.rq_script.specs.Preparing.{statements_in, AreRead}
-use Rattle.rq_script.specs.ScriptLine.{Line, Skip, Cluster as ClusterLine, Elect, Apply, Execute, Query, Stop, StopWithin, Start, Show, line_of}
+use Rattle.rq_script.specs.ScriptLine.{Line, Skip, Cluster as ClusterLine, At, Elect, Apply, Execute, Query, Stop, StopWithin, Start, Show, line_of}
 
 -- each text is prepared as some item
 abbrev pub Readable : Type 0
@@ -55,14 +55,14 @@ asks_alike course c id body rule items x is = at (texts_of body) refl
 lines_alike : (course : Course) (c : Cluster) (line : Line) (items : List Item) (x : Written) → done [] course c line ≡ Some x → (y : Written) × (done items course c line ≡ Some y)
 lines_alike course c Skip items x is = (x, is)
 lines_alike course c (ClusterLine id) items x is = (x, is)
-lines_alike course c (Elect id) items x is = (x, is)
-lines_alike course c (Apply id) items x is = (x, is)
-lines_alike course c (Execute id body) items x is = asks_alike course c id body (λ number read n. execute n number read) items x is
-lines_alike course c (Query id body) items x is = asks_alike course c id body (λ number read n. query n number read) items x is
-lines_alike course c (Stop id) items x is = (x, is)
-lines_alike course c (StopWithin id calls pick) items x is = (x, is)
-lines_alike course c (Start id) items x is = (x, is)
-lines_alike course c (Show id) items x is = (x, is)
+lines_alike course c (At id Elect) items x is = (x, is)
+lines_alike course c (At id Apply) items x is = (x, is)
+lines_alike course c (At id (Execute body)) items x is = asks_alike course c id body (λ number read n. execute n number read) items x is
+lines_alike course c (At id (Query body)) items x is = asks_alike course c id body (λ number read n. query n number read) items x is
+lines_alike course c (At id Stop) items x is = (x, is)
+lines_alike course c (At id (StopWithin calls pick)) items x is = (x, is)
+lines_alike course c (At id Start) items x is = (x, is)
+lines_alike course c (At id Show) items x is = (x, is)
 
 step_is : (items : List Item) (course : Course) (c : Cluster) (bytes : List ℕ) (o : Option Line) → line_of bytes ≡ o → step items course c bytes ≡ option_and_then (done items course c) o
 unfolding step

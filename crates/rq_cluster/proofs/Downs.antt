@@ -14,18 +14,21 @@ use Rattle.rq_wal.specs.Reading.{pair_gives}
 use Rattle.rq_wal.specs.Later.{DeviceRose}
 use Rattle.rq_node.specs.declared.node.Node.{Node as RunningNode}
 use Rattle.rq_node.specs.declared.log_entry.LogEntry.{LogEntry}
+use Rattle.rq_node.specs.declared.event.Event.{Event}
+use Rattle.rq_node.specs.declared.event.Event.TheVariants as event
+use Rattle.rq_node.specs.Events.{IsKept, IsLeft}
 use Rattle.rq_node.specs.Files.{first_base, stored_of}
 use Rattle.rq_node.specs.Node.{Node, Persistent, StoredRecord, Vote, Splice, Boot, Turn, persistent_of, persistent_with, persistent_after}
 use Rattle.rq_node.specs.Sound.{AreReadable, IsPersistentReadable}
 use Rattle.rq_node.specs.Recovery.{IsOpen, Stands, CanBeRead, IsItemReadable, IsBroken}
-use Rattle.rq_script.specs.Cluster.{Stand, Down, Armed, Server, Course, needed, passes, gone_down, numbers}
+use Rattle.rq_script.specs.Cluster.{Stand, Running, Down, Armed, Server, Course, needed, passes, gone_down, numbers}
 use Rattle.rq_script.specs.ScriptText.{down_text}
-use Rattle.rq_cluster.specs.Acting.{Act, event, Crashed, HasStruck}
+use Rattle.rq_cluster.specs.Acting.{Act, event as event_act, Crashed, HasStruck}
 use Rattle.rq_cluster.specs.declared.arming.Arming.{Arming}
 use Rattle.rq_cluster.specs.declared.host.Host.{Host}
 use Rattle.rq_cluster.specs.Refines.{ShowsServer, ShowsStand, IsArmed, LetsPass, Goes, armed_of}
 use Rattle.rq_cluster.specs.Recovery.{Rises, StandsAs, ServerStands}
-use Rattle.rq_cluster.proofs.Pairs.{LogsStand, open_stands, SameDisks, NoFewer, fewer_same, rises_on, rises_more}
+use Rattle.rq_cluster.proofs.Pairs.{LogsStand, open_stands, SameDisks, NoFewer, fewer_same, rises_on, rises_more, stands_same}
 use Rattle.rq_cluster.proofs.Results.{on_ok_map}
 use Rattle.rq_cluster.proofs.Turns.{node_shown, lets_some, failing, striking, turn_failed, turn_struck}
 
@@ -143,7 +146,7 @@ module _ {D F : Type 0} (told : Bool) (means : D → DiskMeaning) where
 
     -- a disk has failed
     has_failed : (HasStruck (arm_of broke) from.armed → ⊥) → (arm_of broke ≡ Struck → ⊥) → DeviceRose means mid broke
-        → GoesDown start new (event rule asked) s (numbers node.state.waiting ++ asked) (s.failures + 1)
+        → GoesDown start new (event_act rule asked) s (numbers node.state.waiting ++ asked) (s.failures + 1)
     has_failed not_struck no_stop device =
         let shown = node_shown told means start old from s shows node runs in
         let n = shown.n in
@@ -170,7 +173,7 @@ module _ {D F : Type 0} (told : Bool) (means : D → DiskMeaning) where
 
     -- a line `stop ID K P` has struck
     has_struck : (a : Armed) → s.armed ≡ Some a → HasStruck (arm_of broke) from.armed → arm_of broke ≡ Struck
-        → GoesDown start new (event rule asked) s (numbers node.state.waiting ++ asked) s.failures
+        → GoesDown start new (event_act rule asked) s (numbers node.state.waiting ++ asked) s.failures
     has_struck a is struck stopped =
         let shown = node_shown told means start old from s shows node runs in
         let n = shown.n in
@@ -206,8 +209,8 @@ module _ {D F : Type 0} (told : Bool) (means : D → DiskMeaning) where
 
     -- of the two, as the program decides
     abbrev pub Fell : Type 0
-    Fell = (HasStruck (arm_of broke) from.armed × GoesDown start new (event rule asked) s (numbers node.state.waiting ++ asked) s.failures)
-        ⊎ ((HasStruck (arm_of broke) from.armed → ⊥) × GoesDown start new (event rule asked) s (numbers node.state.waiting ++ asked) (s.failures + 1))
+    Fell = (HasStruck (arm_of broke) from.armed × GoesDown start new (event_act rule asked) s (numbers node.state.waiting ++ asked) s.failures)
+        ⊎ ((HasStruck (arm_of broke) from.armed → ⊥) × GoesDown start new (event_act rule asked) s (numbers node.state.waiting ++ asked) (s.failures + 1))
 
     no_line : s.armed ≡ None → arm_of broke ≡ Struck → ⊥
     no_line none struck =
@@ -248,20 +251,20 @@ module _ {D F : Type 0} (told : Bool) (means : D → DiskMeaning) where
         × (HasStruck (arm_of broke) from.armed → OnOk r (to.failures ≡ from.failures)) × ((HasStruck (arm_of broke) from.armed → ⊥) → OnOk r (to.failures ≡ from.failures + 1))
 
     pub fell_goes : {T E : Type 0} (r : Result T E) (to : Host) (before text : List ℕ) → Told r to before text
-        → OnOk r ((course : Course) × ShowsServer told means start new to (event rule asked course s).0 × (text ≡ before ++ (event rule asked course s).1))
+        → OnOk r ((course : Course) × ShowsServer told means start new to (event_act rule asked course s).0 × (text ≡ before ++ (event_act rule asked course s).1))
     fell_goes {T} {E} r to before text t = by fell
       where
         Goal : Type 0
-        Goal = (course : Course) × ShowsServer told means start new to (event rule asked course s).0 × (text ≡ before ++ (event rule asked course s).1)
+        Goal = (course : Course) × ShowsServer told means start new to (event_act rule asked course s).0 × (text ≡ before ++ (event_act rule asked course s).1)
 
         waiting : List ℕ
         waiting = numbers node.state.waiting ++ asked
 
-        finish : (failures : ℕ) → GoesDown start new (event rule asked) s waiting failures → OnOk r (to.failures ≡ failures) → OnOk r Goal
+        finish : (failures : ℕ) → GoesDown start new (event_act rule asked) s waiting failures → OnOk r (to.failures ≡ failures) → OnOk r Goal
         finish failures g counted = at r t.0 t.1 t.2 t.3 t.4 counted
           where
             at : (r : Result T E) → OnOk r (to.id ≡ from.id) → OnOk r (to.node ≡ None) → OnOk r (to.armed ≡ None) → OnOk r (to.lost.items ≡ from.lost.items ++ waiting) → OnOk r (text ≡ before ++ down_text from.id) → OnOk r (to.failures ≡ failures) → OnOk r Goal
-            at (Ok x) id none armed lost text_is failed = down_goes start new (event rule asked) s from to waiting before text failures shows.tells g shows.id shows.lost id none armed lost failed text_is
+            at (Ok x) id none armed lost text_is failed = down_goes start new (event_act rule asked) s from to waiting before text failures shows.tells g shows.id shows.lost id none armed lost failed text_is
             at (Err e) id none armed lost text_is failed = tt
 
         counts : (k : ℕ) → OnOk r (to.failures ≡ from.failures + k) → OnOk r (to.failures ≡ s.failures + k)
@@ -271,12 +274,12 @@ module _ {D F : Type 0} (told : Bool) (means : D → DiskMeaning) where
         by (inl (struck, g)) = finish s.failures g (on_ok_map r (to.failures ≡ from.failures) (to.failures ≡ s.failures) (λ e. e ∙ sym shows.failures) (t.5 struck))
         by (inr (never, g)) = finish (s.failures + 1) g (counts 1 (t.6 never))
 
-    pub fell_breaks : (reached : Server) × ((reached ≡ s) ⊎ ((course : Course) × (reached ≡ (event rule asked course s).0))) × ServerStands told means start new (Some reached)
+    pub fell_breaks : (reached : Server) × ((reached ≡ s) ⊎ ((course : Course) × (reached ≡ (event_act rule asked course s).0))) × ServerStands told means start new (Some reached)
     fell_breaks = by fell
       where
-        by : Fell → (reached : Server) × ((reached ≡ s) ⊎ ((course : Course) × (reached ≡ (event rule asked course s).0))) × ServerStands told means start new (Some reached)
-        by (inl (struck, g)) = down_breaks start new (event rule asked) s (numbers node.state.waiting ++ asked) s.failures g
-        by (inr (never, g)) = down_breaks start new (event rule asked) s (numbers node.state.waiting ++ asked) (s.failures + 1) g
+        by : Fell → (reached : Server) × ((reached ≡ s) ⊎ ((course : Course) × (reached ≡ (event_act rule asked course s).0))) × ServerStands told means start new (Some reached)
+        by (inl (struck, g)) = down_breaks start new (event_act rule asked) s (numbers node.state.waiting ++ asked) s.failures g
+        by (inr (never, g)) = down_breaks start new (event_act rule asked) s (numbers node.state.waiting ++ asked) (s.failures + 1) g
 
   -- ---- for every start
 
@@ -290,11 +293,28 @@ module _ {D F : Type 0} (told : Bool) (means : D → DiskMeaning) where
       by (Ok x) all = all
       by (Err e) all = tt
 
-  -- in a later event the server is as before, or as the event leaves it
+  -- a node that keeps what it kept stands for the server as it was
   pub turn_stands : LogsStand F means → (start old : DiskPair D F) (from : Host) (s : Server) (shows : ShowsServer told means start old from s) (new : DiskPair D F) (node after : RunningNode)
-      → from.node ≡ Some node → after.state ≡ node.state → IsOpen told means new after → NoFewer told means old new → ServerStands told means start new (Some s)
-  turn_stands law start old from s shows new node after runs same opened later =
+      → from.node ≡ Some node → IsKept node.state after.state → IsOpen told means new after → NoFewer told means old new → ServerStands told means start new (Some s)
+  turn_stands law start old from s shows new node after runs kept opened later =
       let shown = node_shown told means start old from s shows node runs in
       let stood : Stands told means new s.id (persistent_of shown.n) [] = subst (λ (i : List ℕ). Stands told means new i (persistent_of shown.n) []) shown.named
-      (subst (λ (m : Node). Stands told means new m.id (persistent_of m) []) (same ∙ shown.state) (open_stands told means law new after opened)) in
+      (subst (λ (m : Node). Stands told means new m.id (persistent_of m) []) shown.state
+      (subst (λ (k : Persistent). Stands told means new node.state.id k []) kept.persistent
+      (subst (λ (i : List ℕ). Stands told means new i (persistent_of after.state) []) kept.id (open_stands told means law new after opened)))) in
       (subst (λ (st : Stand). StandsAs told means new s.id st) (sym shown.stand) stood, rises_on told means s.failures start old new shows.rises later)
+
+  -- only the arming has changed
+  pub server_same : (start old new : DiskPair D F) (s : Server) → SameDisks old new → ServerStands told means start old (Some s) → ServerStands told means start new (Some s)
+  server_same start old new s same (stands, rises) = (by s.stand stands, rises_on told means s.failures start old new rises (fewer_same told means old new same))
+    where
+      by : (st : Stand) → StandsAs told means old s.id st → StandsAs told means new s.id st
+      by (Running n) there = stands_same told means old new s.id (persistent_of n) [] same there
+      by (Down kept rest) there = stands_same told means old new s.id kept rest same there
+
+-- what want of memory leaves keeps what the node kept
+pub left_kept : (e : Event) (old new : Node) → IsLeft e old new → IsKept old new
+left_kept (event.Execute number items) old new is = record { id = ap (λ (n : Node). n.id) is; persistent = ap persistent_of is }
+left_kept (event.Query number items) old new is = record { id = ap (λ (n : Node). n.id) is; persistent = ap persistent_of is }
+left_kept event.Elect old new is = record { id = ap (λ (n : Node). n.id) is; persistent = ap persistent_of is }
+left_kept event.Apply old new is = is

@@ -7,10 +7,8 @@ mod Hosts
 mod Lists
 mod Pairs
 mod Pieces
-mod Unchanged
 mod Readings
 mod Results
-mod Rules
 mod Servers
 mod Showing
 mod Starts

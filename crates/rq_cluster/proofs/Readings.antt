@@ -1,16 +1,7 @@
 -- Statements that are read.
 use Rattle.std.proofs.Common.{◌≡◌, ◌<◌, ◌+◌, ℕ, List, [], ◌∷◌, ◌++◌, length, take, get_or, true, Option, Some, refl, sym, ◌∙◌, ap, subst}
-use Rattle.std.specs.Prelude.{All}
-use Rattle.std.proofs.lemmas.List.Elements.{All-push}
 use Rattle.std.proofs.lemmas.List.{take_more}
-use Rattle.rq_values.specs.Text.{is_text}
 use Rattle.rq_statement.specs.declared.item.Item.{Item}
-use Rattle.rq_statement.specs.declared.item.Item.TheVariants.{Run, Fail}
-use Rattle.rq_grammar.specs.declared.stmt.Stmt.{Stmt}
-use Rattle.rq_print.specs.Text.{text_of}
-use Rattle.rq_statement.specs.Settled.{IsSettled}
-use Rattle.rq_statement.specs.Items.{IsItem}
-use Rattle.rq_node.specs.Sound.{IsReadable}
 use Rattle.rq_json.specs.Body.{texts_of}
 use Rattle.rq_settle.specs.Prepared.{IsPrepared}
 use Rattle.rq_script.specs.Preparing.{listed, AreRead}
@@ -31,9 +22,6 @@ one_more_read texts items at text item within is all one =
     (ap (λ (t : List ℕ). take at texts ++ t ∷ []) is ∙ sym (take_more texts at text within))
     (read_on (take at texts) items text item all one)
 
-pub one_more_readable : (items : List Item) (item : Item) → All IsReadable items → IsReadable item → All IsReadable (items ++ item ∷ [])
-one_more_readable items item all one = All-push IsReadable items item all one
-
 pub are_read : (body : List ℕ) (texts : List (List ℕ)) (items : List Item) → texts_of body ≡ Some texts → AreRead texts items → AreRead (listed (texts_of body)) items
 are_read body texts items lists read = subst (λ (o : Option (List (List ℕ))). AreRead (listed o) items) (sym lists) read
 
@@ -44,11 +32,3 @@ Readable = (text : List ℕ) → (item : Item) × IsPrepared text item
 pub some_items : Readable → (texts : List (List ℕ)) → (items : List Item) × AreRead texts items
 some_items readable [] = ([], tt)
 some_items readable (text ∷ texts) = let one = readable text in let rest = some_items readable texts in (one.0 ∷ rest.0, (one.1, rest.1))
-
--- the canonical text of a settled statement is a text
-abbrev pub TextLaw : Type 0
-TextLaw = (s : Stmt) → IsSettled s → is_text (text_of s) ≡ true
-
-pub readable_item : TextLaw → (item : Item) → IsItem item → IsReadable item
-readable_item law (Run s) is = (law s is, is)
-readable_item law (Fail error) is = (is, tt)

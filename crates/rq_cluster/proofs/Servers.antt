@@ -3,19 +3,24 @@ use Rattle.std.proofs.Common.{◌≡◌, ◌⊎◌, inl, inr, ◌+◌, if◌then
 use Rattle.std.specs.Prelude.{SomeIff, MatchOption}
 use Rattle.std.specs.Option.{option_map}
 use Rattle.std.proofs.lemmas.List.{append-nil}
+use Rattle.std.proofs.lemmas.Slice.Eq.{bytes_eq-Decides}
 use Rattle.rq_outside.specs.declared.pair.DiskPair.{DiskPair}
 use Rattle.rq_outside.specs.Disk.{DiskMeaning}
 use Rattle.rq_statement.specs.declared.item.Item.{Item}
 use Rattle.rq_json.specs.Body.{texts_of}
+use Rattle.rq_node.specs.declared.event.Event.{Event}
+use Rattle.rq_node.specs.declared.node.Node.{Node as RunningNode}
 use Rattle.rq_node.specs.Node.{Node, Persistent, StoredRecord, Turn}
 use Rattle.rq_node.specs.Rules.{elect, execute, query, apply}
 use Rattle.rq_script.specs.Cluster.{Stand, Running, Down, Server, Cluster, Course, Written, at_server, event_at, ask_at, named, done, happens_at, stops, arms, starts, shown, whole}
 use Rattle.rq_script.specs.Preparing.{listed, statements, AreRead}
-use Rattle.rq_script.specs.ScriptLine.{Line, Skip, Elect, Apply, Execute, Query, Stop, StopWithin, Start, Show}
-use Rattle.rq_cluster.specs.Acting.{Act, event, start as start_act, stop as stop_act, arm as arm_act}
+use Rattle.rq_script.specs.ScriptText.{show_text, show_down_text}
+use Rattle.rq_script.specs.ScriptLine.{Action, Line, Skip, At, Elect, Apply, Execute, Query, Stop, StopWithin, Start, Show}
+use Rattle.rq_cluster.specs.Acting.{Act, event, turn, start as start_act, stop as stop_act, arm as arm_act, ShownAs, shown_at}
+use Rattle.rq_cluster.specs.Events.{Puts, PutsNothing}
 use Rattle.rq_cluster.specs.declared.host.Host.{Host}
 use Rattle.rq_cluster.specs.declared.world.World.{World}
-use Rattle.rq_cluster.specs.Refines.{ShowsServer, ShowsHost, ShowsCluster, Goes, BreaksOff, Leads, DoesLine, BreaksLine}
+use Rattle.rq_cluster.specs.Refines.{ShowsServer, ShowsStand, ShowsHost, ShowsCluster, Goes, BreaksOff, Leads, DoesLine, BreaksLine, IsOutsideHere, with_host}
 use Rattle.rq_cluster.specs.Recovery.{ServerStands}
 use Rattle.rq_cluster.proofs.Turns.{node_shown, down_shown}
 
@@ -23,8 +28,18 @@ unnot : (b : Bool) → false ≡ not b → b ≡ true
 unnot true is = refl
 unnot false is = absurd (cc)
 
-pub same_id : (id there given : List ℕ) → false ≡ not (bytes_eq there given) → there ≡ id → bytes_eq id given ≡ true
-same_id id there given is same = ap (λ (l : List ℕ). bytes_eq l given) (sym same) ∙ unnot (bytes_eq there given) is
+pub same_id : (id there given : List ℕ) → false ≡ not (bytes_eq there given) → there ≡ id → id ≡ given
+same_id id there given is same = sym same ∙ (bytes_eq-Decides there given).0 (unnot (bytes_eq there given) is)
+
+unis : (b : Bool) → true ≡ not b → b ≡ false
+unis true is = absurd (cc)
+unis false is = refl
+
+pub other_id : (id there given : List ℕ) → true ≡ not (bytes_eq there given) → there ≡ id → bytes_eq id given ≡ false
+other_id id there given is same = ap (λ (l : List ℕ). bytes_eq l given) (sym same) ∙ unis (bytes_eq there given) is
+
+pub with_is : (w : World) (host : Host) → w.host ≡ Some host → with_host host w.asks ≡ w
+with_is w host is = λ i. record w { host = sym is i }
 
 some_of : {T : Type 0} (o : Option T) → is_some o ≡ true → (x : T) × (o ≡ Some x)
 some_of None is = absurd (cc)
@@ -67,6 +82,50 @@ arm_is calls pick course s n is =
 start_is : (course : Course) (s : Server) (kept : Persistent) (rest : List StoredRecord) → s.stand ≡ Down kept rest → starts course s ≡ Some (start_act course s)
 start_is course s kept rest is =
     ap (λ (st : Stand). starts course (record s { stand = st })) is ∙ sym (ap (λ (st : Stand). Some (start_act course (record s { stand = st }))) is)
+
+-- what can't be done there
+at_none : (c : Cluster) (s : Server) (id : List ℕ) (act : Server → Option (Server × List ℕ)) → c.server ≡ Some s → act s ≡ None → at_server c id act ≡ None
+at_none c s id act is cannot =
+    let F : Server × List ℕ → Written = λ u. (record c { server = Some u.0 }, u.1) in
+    ap (λ (o : Option Server). at_server (record c { server = o }) id act) is
+    ∙ ap (λ (o : Option (Server × List ℕ)). if bytes_eq s.id id then option_map F o else None) cannot
+    ∙ by F (bytes_eq s.id id)
+  where
+    by : (F : Server × List ℕ → Written) (b : Bool) → (if b then option_map F None else None) ≡ None
+    by F true = refl
+    by F false = refl
+
+-- where another server is named, and where none is there
+at_other : (c : Cluster) (s : Server) (id : List ℕ) (act : Server → Option (Server × List ℕ)) → c.server ≡ Some s → bytes_eq s.id id ≡ false → at_server c id act ≡ None
+at_other c s id act is other =
+    let F : Server × List ℕ → Written = λ u. (record c { server = Some u.0 }, u.1) in
+    ap (λ (o : Option Server). at_server (record c { server = o }) id act) is ∙ ap (λ (b : Bool). if b then option_map F (act s) else None) other
+
+at_nobody : (c : Cluster) (id : List ℕ) (act : Server → Option (Server × List ℕ)) → c.server ≡ None → at_server c id act ≡ None
+at_nobody c id act is = ap (λ (o : Option Server). at_server (record c { server = o }) id act) is
+
+no_texts : (texts : Option (List (List ℕ))) (does : List (List ℕ) → Option Written) → ((t : List (List ℕ)) → does t ≡ None) → option_and_then does texts ≡ None
+no_texts None does none = refl
+no_texts (Some t) does none = none t
+
+module _ (c : Cluster) (id : List ℕ) (none : (asks : ℕ) (act : Server → Option (Server × List ℕ)) → at_server (record c { asks = asks }) id act ≡ None) where
+  nothing_at : (a : Action) → done [] whole c (At id a) ≡ None
+  nothing_at Elect = none c.asks (λ s. Some (happens_at whole s elect []))
+  nothing_at Apply = none c.asks (λ s. Some (happens_at whole s apply []))
+  nothing_at (Execute body) = no_texts (texts_of body) (λ _. event_at whole (record c { asks = c.asks + 1 }) id (λ n. execute n (c.asks + 1) []) ((c.asks + 1) ∷ []))
+      (λ _. none (c.asks + 1) (λ s. Some (happens_at whole s (λ n. execute n (c.asks + 1) []) ((c.asks + 1) ∷ []))))
+  nothing_at (Query body) = no_texts (texts_of body) (λ _. event_at whole (record c { asks = c.asks + 1 }) id (λ n. query n (c.asks + 1) []) ((c.asks + 1) ∷ []))
+      (λ _. none (c.asks + 1) (λ s. Some (happens_at whole s (λ n. query n (c.asks + 1) []) ((c.asks + 1) ∷ []))))
+  nothing_at Stop = none c.asks stops
+  nothing_at (StopWithin calls pick) = none c.asks (arms calls pick)
+  nothing_at Start = none c.asks (starts whole)
+  nothing_at Show = none c.asks (λ s. Some (s, shown s.id s.stand))
+
+none_at : (c : Cluster) (id : List ℕ) (a : Action) → c.server ≡ None → done [] whole c (At id a) ≡ None
+none_at c id a is = nothing_at c id (λ asks act. at_nobody (record c { asks = asks }) id act is) a
+
+other_at : (c : Cluster) (s : Server) (id : List ℕ) (a : Action) → c.server ≡ Some s → bytes_eq s.id id ≡ false → done [] whole c (At id a) ≡ None
+other_at c s id a is other = nothing_at c id (λ asks act. at_other (record c { asks = asks }) s id act is other) a
 
 -- the server is printed
 abbrev pub show_act : Act
@@ -135,16 +194,16 @@ module _ {D F : Type 0} (told : Bool) (means : D → DiskMeaning) where
     this : (start : DiskPair D F) (s : Server) → ShowsServer told means start old host s → bytes_eq s.id id ≡ true
     this start s shows = ap (λ (i : List ℕ). bytes_eq i id) shows.id ∙ same
 
-    pub elect_done : IsDone (Elect id) (event elect []) [] same_asks old from host
+    pub elect_done : IsDone (At id Elect) (event elect []) [] same_asks old from host
     elect_done = record { read = tt; does = λ start c s course there shows asks. event_is course c s id elect [] there (this start s shows) }
 
-    pub apply_done : IsDone (Apply id) (event apply []) [] same_asks old from host
+    pub apply_done : IsDone (At id Apply) (event apply []) [] same_asks old from host
     apply_done = record { read = tt; does = λ start c s course there shows asks. event_is course c s id apply [] there (this start s shows) }
 
-    pub show_done : IsDone (Show id) show_act [] same_asks old from host
+    pub show_done : IsDone (At id Show) show_act [] same_asks old from host
     show_done = record { read = tt; does = λ start c s course there shows asks. at_is c s id (λ t. Some (t, shown t.id t.stand)) (show_act course s) there (this start s shows) refl }
 
-    pub stop_done : is_some host.node ≡ true → IsDone (Stop id) stop_act [] same_asks old from host
+    pub stop_done : is_some host.node ≡ true → IsDone (At id Stop) stop_act [] same_asks old from host
     stop_done running = record {
       read = tt;
       does = λ start c s course there shows asks.
@@ -153,7 +212,7 @@ module _ {D F : Type 0} (told : Bool) (means : D → DiskMeaning) where
           at_is c s id stops (stop_act course s) there (this start s shows) (stop_is course s at.n at.stand);
     }
 
-    pub arm_done : (calls pick : ℕ) → is_some host.node ≡ true → IsDone (StopWithin id calls pick) (arm_act calls pick) [] same_asks old from host
+    pub arm_done : (calls pick : ℕ) → is_some host.node ≡ true → IsDone (At id (StopWithin calls pick)) (arm_act calls pick) [] same_asks old from host
     arm_done calls pick running = record {
       read = tt;
       does = λ start c s course there shows asks.
@@ -162,7 +221,7 @@ module _ {D F : Type 0} (told : Bool) (means : D → DiskMeaning) where
           at_is c s id (arms calls pick) (arm_act calls pick course s) there (this start s shows) (arm_is calls pick course s at.n at.stand);
     }
 
-    pub start_done : is_some host.node ≡ false → IsDone (Start id) start_act [] same_asks old from host
+    pub start_done : is_some host.node ≡ false → IsDone (At id Start) start_act [] same_asks old from host
     start_done down = record {
       read = tt;
       does = λ start c s course there shows asks.
@@ -180,23 +239,131 @@ module _ {D F : Type 0} (told : Bool) (means : D → DiskMeaning) where
           subst (λ (k : ℕ). ask_at course c id rule items body ≡ Some (record c { server = Some (event (rule k items) (k ∷ []) course s).0; asks = c.asks + 1 }, (event (rule k items) (k ∷ []) course s).1))
           (ap (λ (k : ℕ). k + 1) asks ∙ sym counts) (ask_is course c s id body texts rule items lists there (this start s shows))
 
-      pub execute_done : IsDone (Execute id body) (event (λ n. execute n number items) (number ∷ [])) items next_ask old from host
+      pub execute_done : IsDone (At id (Execute body)) (event (λ n. execute n number items) (number ∷ [])) items next_ask old from host
       execute_done = record { read = ask_read; does = ask_does (λ number read n. execute n number read) }
 
-      pub query_done : IsDone (Query id body) (event (λ n. query n number items) (number ∷ [])) items next_ask old from host
+      pub query_done : IsDone (At id (Query body)) (event (λ n. query n number items) (number ∷ [])) items next_ask old from host
       query_done = record { read = ask_read; does = ask_does (λ number read n. query n number read) }
+
+  pub shown_goes : (pair : DiskPair D F) (host : Host) (before text : List ℕ) → ShownAs host before text → Goes told means show_act pair pair host host before text
+  shown_goes pair host before text was start s shows = (whole, shows, was ∙ ap (λ (w : List ℕ). before ++ w) (by host.node s.stand shows.stand))
+    where
+      by : (o : Option RunningNode) (st : Stand) → ShowsStand told means pair s.id o st → shown_at host.id o ≡ shown s.id st
+      by (Some node) (Running n) (state, _, _) = ap (λ (m : Node). show_text m) state
+      by None (Down kept rest) _ = ap show_down_text (sym shows.id)
+      by (Some node) (Down kept rest) nothing = absurd nothing
+      by None (Running n) nothing = absurd nothing
+
+  -- ---- an action at the server of a host
+
+  module _ (old : DiskPair D F) (host : Host) (asks : ℕ) where
+    same : bytes_eq host.id host.id ≡ true
+    same = (bytes_eq-Decides host.id host.id).1 refl
+
+    module _ (a : Action) (act : Act) (items : List Item) (counts : ℕ → ℕ) (d : IsDone (At host.id a) act items counts old (with_host host asks) host) (given : Action) (is : given ≡ a) where
+      pub done_ok : (new : DiskPair D F) (after : Host) (count : ℕ) (before text : List ℕ) → count ≡ counts asks → Goes told means act old new host after before text
+          → DoesLine told means (At host.id given) old new (with_host host asks) (with_host after count) before text
+      done_ok new after count before text counted goes =
+          subst (λ (b : Action). DoesLine told means (At host.id b) old new (with_host host asks) (with_host after count) before text) (sym is)
+          (line_does (At host.id a) act items counts old new (with_host host asks) host d refl (with_host after count) after before text refl counted goes)
+
+      pub done_breaks : (new : DiskPair D F) → BreaksOff told means act old new host → BreaksLine told means (At host.id given) old new (with_host host asks)
+      done_breaks new off =
+          subst (λ (b : Action). BreaksLine told means (At host.id b) old new (with_host host asks)) (sym is) (line_breaks (At host.id a) act items counts old new (with_host host asks) host d refl off)
+
+    pub stop_here : is_some host.node ≡ true → IsDone (At host.id Stop) stop_act [] same_asks old (with_host host asks) host
+    stop_here running = stop_done old (with_host host asks) host host.id same running
+
+    pub arm_here : (calls pick : ℕ) → is_some host.node ≡ true → IsDone (At host.id (StopWithin calls pick)) (arm_act calls pick) [] same_asks old (with_host host asks) host
+    arm_here calls pick running = arm_done old (with_host host asks) host host.id same calls pick running
+
+    pub start_here : is_some host.node ≡ false → IsDone (At host.id Start) start_act [] same_asks old (with_host host asks) host
+    start_here down = start_done old (with_host host asks) host host.id same down
+
+    pub show_here : IsDone (At host.id Show) show_act [] same_asks old (with_host host asks) host
+    show_here = show_done old (with_host host asks) host host.id same
+
+    -- an event that an action puts to the node
+    record IsPut (a : Action) (count : ℕ) (e : Event) : Type 0 where
+      items : List Item
+      counts : ℕ → ℕ
+      d : IsDone (At host.id a) (turn e) items counts old (with_host host asks) host
+      counted : count ≡ counts asks
+
+    is_put : (a : Action) (count : ℕ) (e : Event) → Puts a asks count e → IsPut a count e
+    is_put Elect count e (is, counted) = subst (λ (x : Event). IsPut Elect count x) (sym is) (record { items = []; counts = same_asks; d = elect_done old (with_host host asks) host host.id same; counted = counted })
+    is_put Apply count e (is, counted) = subst (λ (x : Event). IsPut Apply count x) (sym is) (record { items = []; counts = same_asks; d = apply_done old (with_host host asks) host host.id same; counted = counted })
+    is_put (Execute body) count e (number, items, is, ask) =
+        subst (λ (x : Event). IsPut (Execute body) count x) (sym is)
+        (record { items = items; counts = next_ask; d = execute_done old (with_host host asks) host host.id same body ask.texts items number ask.lists ask.read ask.next; counted = ask.counts })
+    is_put (Query body) count e (number, items, is, ask) =
+        subst (λ (x : Event). IsPut (Query body) count x) (sym is)
+        (record { items = items; counts = next_ask; d = query_done old (with_host host asks) host host.id same body ask.texts items number ask.lists ask.read ask.next; counted = ask.counts })
+    is_put Stop count e nothing = absurd nothing
+    is_put (StopWithin calls pick) count e nothing = absurd nothing
+    is_put Start count e nothing = absurd nothing
+    is_put Show count e nothing = absurd nothing
+
+    module _ (a : Action) (count : ℕ) (e : Event) (puts : Puts a asks count e) (new : DiskPair D F) where
+      pub put_ok : (after : Host) (before text : List ℕ) → Goes told means (turn e) old new host after before text → DoesLine told means (At host.id a) old new (with_host host asks) (with_host after count) before text
+      put_ok after before text goes = let p = is_put a count e puts in done_ok a (turn e) p.items p.counts p.d a refl new after count before text p.counted goes
+
+      pub put_breaks : BreaksOff told means (turn e) old new host → BreaksLine told means (At host.id a) old new (with_host host asks)
+      put_breaks off = let p = is_put a count e puts in done_breaks a (turn e) p.items p.counts p.d a refl new off
+
+    -- ---- where it can't be done
+
+    pub put_outside : (a : Action) → PutsNothing a → IsOutsideHere told means (At host.id a) old (with_host host asks)
+    put_outside (Execute body) none start c shown = ap (option_and_then (λ (t : List (List ℕ)). event_at whole (record c { asks = c.asks + 1 }) host.id (λ n. execute n (c.asks + 1) []) ((c.asks + 1) ∷ []))) none
+    put_outside (Query body) none start c shown = ap (option_and_then (λ (t : List (List ℕ)). event_at whole (record c { asks = c.asks + 1 }) host.id (λ n. query n (c.asks + 1) []) ((c.asks + 1) ∷ []))) none
+    put_outside Elect nothing = absurd nothing
+    put_outside Apply nothing = absurd nothing
+    put_outside Stop nothing = absurd nothing
+    put_outside (StopWithin calls pick) nothing = absurd nothing
+    put_outside Start nothing = absurd nothing
+    put_outside Show nothing = absurd nothing
+
+    cannot : (a given : Action) → given ≡ a → ((start : DiskPair D F) (c : Cluster) → ShowsCluster told means start old (with_host host asks) c → done [] whole c (At host.id a) ≡ None)
+        → IsOutsideHere told means (At host.id given) old (with_host host asks)
+    cannot a given is outside = subst (λ (b : Action). IsOutsideHere told means (At host.id b) old (with_host host asks)) (sym is) outside
+
+    pub stop_outside : (given : Action) → given ≡ Stop → is_some host.node ≡ false → IsOutsideHere told means (At host.id given) old (with_host host asks)
+    stop_outside given is down = cannot Stop given is (λ start c shown.
+        let server = server_shown start old (with_host host asks) host c refl shown in
+        let at = down_shown told means start old host server.s server.shows (none_of host.node down) in
+        at_none c server.s host.id stops server.there (ap (λ (st : Stand). stops (record server.s { stand = st })) at.stand))
+
+    pub arm_outside : (given : Action) (calls pick : ℕ) → given ≡ StopWithin calls pick → is_some host.node ≡ false → IsOutsideHere told means (At host.id given) old (with_host host asks)
+    arm_outside given calls pick is down = cannot (StopWithin calls pick) given is (λ start c shown.
+        let server = server_shown start old (with_host host asks) host c refl shown in
+        let at = down_shown told means start old host server.s server.shows (none_of host.node down) in
+        at_none c server.s host.id (arms calls pick) server.there (ap (λ (st : Stand). arms calls pick (record server.s { stand = st })) at.stand))
+
+    pub start_outside : (given : Action) → given ≡ Start → is_some host.node ≡ true → IsOutsideHere told means (At host.id given) old (with_host host asks)
+    start_outside given is running = cannot Start given is (λ start c shown.
+        let server = server_shown start old (with_host host asks) host c refl shown in
+        let node = some_of host.node running in
+        let at = node_shown told means start old host server.s server.shows node.0 node.1 in
+        at_none c server.s host.id (starts whole) server.there (ap (λ (st : Stand). starts whole (record server.s { stand = st })) at.stand))
+
+  -- no such server is there
+  pub nobody_outside : (id : List ℕ) (a : Action) (old : DiskPair D F) (from : World) → from.host ≡ None → IsOutsideHere told means (At id a) old from
+  nobody_outside id a old from none start c shown = none_at c id a (by c.server refl (subst (λ (o : Option Host). ShowsHost told means start old o c.server) none shown.1))
+    where
+      by : (o : Option Server) → c.server ≡ o → ShowsHost told means start old None o → c.server ≡ None
+      by None there shows = there
+      by (Some s) there nothing = absurd nothing
+
+  pub other_outside : (id : List ℕ) (a : Action) (old : DiskPair D F) (from : World) (host : Host) → from.host ≡ Some host → bytes_eq host.id id ≡ false → IsOutsideHere told means (At id a) old from
+  other_outside id a old from host is other start c shown =
+      let server = server_shown start old from host c is shown in
+      other_at c server.s id a server.there (ap (λ (i : List ℕ). bytes_eq i id) server.shows.id ∙ other)
 
   -- a line that is skipped
   pub skips : (pair : DiskPair D F) (world : World) (line : Line) (text : List ℕ) → line ≡ Skip → DoesLine told means line pair pair world world text text
   skips pair world line text is =
       subst (λ (l : Line). DoesLine told means l pair pair world world text text) (sym is)
       (λ start c shown. (c, [], ([], whole, tt, refl), sym (append-nil text), shown))
-
-  -- what writes nothing writes nothing behind any text
-  pub writes_nothing : (line : Line) (old new : DiskPair D F) (from to : World) (text : List ℕ) → DoesLine told means line old new from to [] [] → DoesLine told means line old new from to text text
-  writes_nothing line old new from to text does start c shown =
-      let d = does start c shown in
-      (d.0, d.1, d.2, sym (append-nil text) ∙ ap (λ (w : List ℕ). text ++ w) d.3, d.4)
 
 -- ---- what the parts of the code give
 

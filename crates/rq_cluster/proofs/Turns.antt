@@ -12,8 +12,7 @@ use Rattle.rq_node.specs.declared.node.Node.{Node as RunningNode}
 use Rattle.rq_node.specs.Node.{Node, Persistent, StoredRecord, Turn, persistent_of, persistent_after}
 use Rattle.rq_node.specs.Recovery.{IsOpen, Stands, CanBeRead}
 use Rattle.rq_script.specs.Cluster.{Stand, Running, Down, Armed, Server, Course, NoFault, Storing, Fate, Done, Struck as HasStruck, fate, fate_of, ended, needed, passes, left_after, happens, happens_at, gone_down, whole}
-use Rattle.rq_request.specs.declared.say.Answer.{Answer}
-use Rattle.rq_script.specs.ScriptText.{answer_text, answers_text, down_text}
+use Rattle.rq_script.specs.ScriptText.{answers_text, down_text}
 use Rattle.rq_cluster.specs.Acting.{event}
 use Rattle.rq_cluster.specs.declared.arming.Arming.{Arming}
 use Rattle.rq_cluster.specs.declared.host.Host.{Host}
@@ -126,7 +125,7 @@ module _ {D F : Type 0} (told : Bool) (means : D → DiskMeaning) where
         (same : SameDisks old mid) (lets : LetsPass told means mid s.armed) (later : NoFewer told means old new)
         (runs : from.node ≡ Some node) (id : to.id ≡ from.id) (lost : to.lost ≡ from.lost) (failures : to.failures ≡ from.failures)
         (armed : armed_of to.armed ≡ left_after (armed_of from.armed) (4 * count)) (runs_on : to.node ≡ Some after)
-        (state : after.state ≡ (rule node.state).node) (count_is : count ≡ length (rule node.state).records) (named : (n : Node) → (rule n).node.id ≡ n.id)
+        (state : after.state ≡ (rule node.state).node) (count_is : count ≡ length (rule node.state).records) (named : (rule node.state).node.id ≡ node.state.id)
         (opened : IsOpen told means new after) (calls : UsedCalls (4 * count) (arm_of mid) (arm_of new)) (text_is : text ≡ before ++ answers_text (rule node.state).answers) where
       pub turn_goes : (course : Course) × ShowsServer told means start new to (event rule asked course s).0 × (text ≡ before ++ (event rule asked course s).1)
       turn_goes =
@@ -141,7 +140,7 @@ module _ {D F : Type 0} (told : Bool) (means : D → DiskMeaning) where
           ap (λ (c : ℕ). left_after s.armed c) (sym k) ∙ ap (λ (a : Option Armed). left_after a (4 * count)) shows.armed ∙ sym armed in
           let there : ShowsStand told means new s.id to.node (Running (rule n).node) =
           subst (λ (o : Option RunningNode). ShowsStand told means new s.id o (Running (rule n).node)) (sym runs_on)
-          (state ∙ ap (λ (t : Turn). t.node) turn, named n ∙ shown.named, opened) in
+          (state ∙ ap (λ (t : Turn). t.node) turn, subst (λ (m : Node). (rule m).node.id ≡ m.id) shown.state named ∙ shown.named, opened) in
           let shows_next : ShowsServer told means start new to next = record {
             tells = shows.tells;
             id = shows.id ∙ sym id;
@@ -187,10 +186,7 @@ module _ {D F : Type 0} (told : Bool) (means : D → DiskMeaning) where
         (shows_next, sym (append-nil before)) in
         (whole, so.0, so.1)
 
--- ---- texts
-
-pub one_answer : (before text : List ℕ) (answer : Answer) → text ≡ before ++ answer_text answer → text ≡ before ++ answers_text (answer ∷ [])
-one_answer before text answer is = is ∙ ap (λ (l : List ℕ). before ++ l) (sym (append-nil (answer_text answer)))
+-- ---- options
 
 pub some_of : {A : Type 0} (o : Option A) → is_some o ≡ true → (a : A) × (o ≡ Some a)
 some_of None is = absurd (cc)

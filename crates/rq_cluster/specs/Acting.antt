@@ -6,10 +6,10 @@ use Rattle.rq_outside.specs.declared.pair.Arm.TheVariants.{Off, Struck}
 use Rattle.rq_outside.specs.declared.pair.FileNo.{FileNo}
 use Rattle.rq_outside.specs.Disk.{DiskMeaning, Only}
 use Rattle.rq_outside.specs.Pair.{arm_of, disk_at}
-use Rattle.rq_statement.specs.declared.item.Item.{Item}
 use Rattle.rq_node.specs.declared.node.Node.{Node as RunningNode}
 use Rattle.rq_node.specs.Node.{Node, Turn, persistent_of}
-use Rattle.rq_node.specs.Rules as rules
+use Rattle.rq_node.specs.declared.event.Event.{Event}
+use Rattle.rq_node.specs.Events.{rule, asked}
 use Rattle.rq_script.specs.Cluster.{Stand, Running, Down, Server, Course, happens_at, opens, gone_down, numbers}
 use Rattle.rq_script.specs.ScriptText.{answers_text, down_text, show_text, show_down_text}
 use Rattle.rq_cluster.specs.declared.arming.Arming.{Arming}
@@ -19,9 +19,18 @@ use Rattle.rq_cluster.specs.declared.host.Host.{Host}
 abbrev pub Act : Type 0
 Act = Course → Server → Server × List ℕ
 
+-- the ask of an event, if it has one
+abbrev pub asked_of : Option ℕ → List ℕ
+asked_of None = []
+asked_of (Some number) = number ∷ []
+
 -- a rule of the node, for asks of these numbers
 abbrev pub event : (Node → Turn) → List ℕ → Act
-event rule asked course s = happens_at course s rule asked
+event by numbers course s = happens_at course s by numbers
+
+-- what an event of the node makes of a server
+abbrev pub turn : Event → Act
+turn e = event (rule e) (asked_of (asked e))
 
 -- the node of a server that is down starts
 abbrev pub start : Act
@@ -45,10 +54,6 @@ arm calls pick course s = (record s { armed = Some (record { calls = calls; pick
 
 -- ---- a node that goes down
 
-abbrev pub asked_of : Option ℕ → List ℕ
-asked_of None = []
-asked_of (Some number) = number ∷ []
-
 -- a line `stop ID K P` has struck
 abbrev pub HasStruck : Arm → Option Arming → Type 0
 HasStruck arm None = ⊥
@@ -62,21 +67,6 @@ pub record Crashed {D F : Type 0} (told : Bool) (means : D → DiskMeaning) (old
   pub arm : arm_of new ≡ Off
 
 -- ---- events that touch no disk
-
--- what is committed was applied
-pub record Applies (from to : Host) (before after : List ℕ) : Type 0 where
-  pub down : from.node ≡ None → (to ≡ from) × (after ≡ before)
-  pub running : (node : RunningNode) → from.node ≡ Some node → (next : RunningNode) × (to ≡ record from { node = Some next })
-      × (next.state ≡ (rules.apply node.state).node) × (next.file ≡ node.file) × (after ≡ before ++ answers_text (rules.apply node.state).answers)
-
--- queries were put to the node
-pub record Queries (number : ℕ) (items : List Item) (from to : Host) (before after : List ℕ) : Type 0 where
-  pub node : to.node ≡ from.node
-  pub id : to.id ≡ from.id
-  pub armed : to.armed ≡ from.armed
-  pub failures : to.failures ≡ from.failures
-  pub down : from.node ≡ None → (to.lost.items ≡ from.lost.items ++ number ∷ []) × (after ≡ before)
-  pub running : (node : RunningNode) → from.node ≡ Some node → (to.lost.items ≡ from.lost.items) × (after ≡ before ++ answers_text (rules.query node.state number items).answers)
 
 -- the node was printed
 abbrev pub shown_at : List ℕ → Option RunningNode → List ℕ

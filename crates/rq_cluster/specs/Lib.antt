@@ -1,6 +1,7 @@
 pub mod Acting
 pub mod CommandWords
 pub mod EmptyPairs
+pub mod Events
 pub mod Feed
 pub mod LastLines
 pub mod Outcome

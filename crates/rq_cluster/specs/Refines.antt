@@ -24,6 +24,10 @@ armed_of = option_map (λ (a : Arming). record { calls = a.calls; pick = a.pick 
 abbrev pub Leads : Cluster → Line → List ℕ → Cluster → Type 0
 Leads c line written next = (items : List Item) × (course : Course) × AreRead (statements line) items × (done items course c line ≡ Some (next, written))
 
+-- the cluster of this server, with so many asks
+abbrev pub with_host : Host → ℕ → World
+with_host host asks = record { host = Some host; asks = asks }
+
 -- the asks without an answer
 abbrev pub pending_in : Option Host → List ℕ
 pending_in None = []

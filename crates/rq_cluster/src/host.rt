@@ -3,8 +3,6 @@ ghost use Rattle.std.specs.Prelude.{◌≡◌, ◌≢◌, ◌≤◌, ◌+◌, �
 ghost use Rattle.rq_outside.specs.declared.pair.Arm.TheVariants.{Passes, Struck};
 ghost use Rattle.rq_outside.specs.declared.pair.FileNo.{FileNo};
 ghost use Rattle.rq_outside.specs.Pair.{arm_of, disk_at};
-ghost use Rattle.rq_node.specs.Rules as rules_of;
-ghost use Rattle.rq_node.specs.Sound.{IsReadable};
 ghost use Rattle.rq_script.specs.Cluster.{numbers as numbers_of, left_after};
 ghost use Rattle.rq_script.specs.ScriptText.{down_text, pending_text};
 ghost use Rattle.rq_cluster.specs.declared.arming.Arming.{Arming as TheArming};
@@ -13,14 +11,12 @@ ghost use Rattle.rq_cluster.specs.Acting.{pending_at, asked_of, HasStruck, Crash
 ghost use Rattle.rq_cluster.specs.Refines.{HostReady, IsArmed, LetsPass, Goes, BreaksOff, armed_of};
 
 use crate::arming::Arming;
-use rq_node::{Node, NodeError, State, TurnError, Waiting};
+use rq_node::{Event, Node, NodeError, State, TurnError, Waiting};
 use rq_outside::{CrashDisk, DiskPair};
 use rq_script::{
-    write_all_pending, write_answer, write_answers, write_down, write_show, write_show_down,
-    write_up,
+    write_all_pending, write_answers, write_down, write_show, write_show_down, write_up,
 };
-use rq_statement::Item;
-use rq_values::{Id, NoMemory, Seq};
+use rq_values::{Id, NoMemory};
 use rq_wal::current_logs_stand;
 use std::alloc::Global;
 
@@ -95,97 +91,34 @@ impl Host {
         }
     }
 
-    /// Lets the node stand for election.
-    pub fn elect<D: CrashDisk>(
+    /// Hands an event to the node, and writes what it answers. Where the node is down, an ask is lost.
+    pub fn turn<D: CrashDisk>(
         &mut self,
         alloc: Global,
         disks: &mut DiskPair<D>,
+        event: Event,
         text: &mut Vec<u8>,
     ) -> Result<(), NoMemory>
         requires ready { HostReady D.told D.means disks.old self.old }
-        ensures ok { OnOk result (Goes D.told D.means (act.event rules_of.elect []) disks.old disks.new self.old self.new text.old.items text.new.items) }
+        ensures ok { OnOk result (Goes D.told D.means (act.turn event) disks.old disks.new self.old self.new text.old.items text.new.items) }
         ensures ready { OnOk result (HostReady D.told D.means disks.new self.new) }
-        ensures broken { OnErr result (BreaksOff D.told D.means (act.event rules_of.elect []) disks.old disks.new self.old) }
+        ensures broken { OnErr result (BreaksOff D.told D.means (act.turn event) disks.old disks.new self.old) }
     {
         current_logs_stand::<D>();
         self.let_pass(disks);
+        let asked = event.asked();
         let Some(mut node) = self.node.take() else {
-            return Ok(());
+            drop(event);
+            return lose(asked, &mut self.lost);
         };
-        match node.elect(alloc, disks) {
-            Ok(count) => {
-                self.go_on(node, count);
-                Ok(())
+        match node.turn(alloc, disks, event) {
+            Ok(effects) => {
+                self.go_on(node, effects.stored);
+                write_answers(alloc, effects.answers.as_slice(), text)
             }
             Err(TurnError::NoMemory) => Err(NoMemory),
-            Err(TurnError::Disk) => self.go_down(disks, &node.state, None, text),
+            Err(TurnError::Disk) => self.go_down(disks, &node.state, asked, text),
         }
-    }
-
-    /// Lets the node apply what is committed. With no memory it is good for nothing more.
-    pub fn apply(&mut self, alloc: Global, text: &mut Vec<u8>) -> Result<(), NoMemory>
-        ensures ok { OnOk result (act.Applies self.old self.new text.old.items text.new.items) }
-    {
-        let Some(mut node) = self.node.take() else {
-            return Ok(());
-        };
-        let answers = node.state.apply(alloc)?;
-        write_answers(alloc, answers.as_slice(), text)?;
-        self.node = Some(node);
-        Ok(())
-    }
-
-    /// Asks the node to execute a list.
-    pub fn execute<D: CrashDisk>(
-        &mut self,
-        alloc: Global,
-        disks: &mut DiskPair<D>,
-        number: u64,
-        items: Seq<Item>,
-        text: &mut Vec<u8>,
-    ) -> Result<(), NoMemory>
-        requires ready { HostReady D.told D.means disks.old self.old }
-        requires readable { All IsReadable items }
-        ensures ok { OnOk result (Goes D.told D.means (act.event (λ n. rules_of.execute n number items) (number ∷ [])) disks.old disks.new self.old self.new text.old.items text.new.items) }
-        ensures ready { OnOk result (HostReady D.told D.means disks.new self.new) }
-        ensures broken { OnErr result (BreaksOff D.told D.means (act.event (λ n. rules_of.execute n number items) (number ∷ [])) disks.old disks.new self.old) }
-    {
-        current_logs_stand::<D>();
-        self.let_pass(disks);
-        let Some(mut node) = self.node.take() else {
-            self.lost.push(number)?;
-            return Ok(());
-        };
-        match node.execute(alloc, disks, number, items) {
-            Ok(Some(say)) => {
-                self.go_on(node, 0);
-                write_answer(alloc, number, &say, text)
-            }
-            Ok(None) => {
-                self.go_on(node, 1);
-                Ok(())
-            }
-            Err(TurnError::NoMemory) => Err(NoMemory),
-            Err(TurnError::Disk) => self.go_down(disks, &node.state, Some(number), text),
-        }
-    }
-
-    /// Asks the node for the results of queries on its own database.
-    pub fn query(
-        &mut self,
-        alloc: Global,
-        number: u64,
-        items: &[Item],
-        text: &mut Vec<u8>,
-    ) -> Result<(), NoMemory>
-        ensures ok { OnOk result (act.Queries number items.now self.old self.new text.old.items text.new.items) }
-    {
-        let Some(node) = &self.node else {
-            self.lost.push(number)?;
-            return Ok(());
-        };
-        let say = node.state.query(alloc, items)?;
-        write_answer(alloc, number, &say, text)
     }
 
     /// Stops the running node at once.
@@ -296,6 +229,16 @@ impl Host {
             self.lost.push(number)?;
         }
         write_down(&self.id, text)
+    }
+}
+
+/// An ask to a node that is down is lost.
+fn lose(asked: Option<u64>, lost: &mut Vec<u64>) -> Result<(), NoMemory>
+    ensures { OnOk result (lost.new.items ≡ lost.old.items ++ asked_of asked) }
+{
+    match asked {
+        Some(number) => Ok(lost.push(number)?),
+        None => Ok(()),
     }
 }
 

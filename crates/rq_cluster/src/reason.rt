@@ -1,5 +1,4 @@
 //! Why a script ends at a line: docs/SCRIPT.md, "The end".
-use rq_script::ScriptLine;
 use rq_values::{Id, NoMemory};
 
 /// Why a line can't stand where it stands.
@@ -80,26 +79,6 @@ pub fn misspelled(line: &[u8]) -> Reason {
     match Form::of(first_word(line)) {
         Some(form) => Reason::NotOfForm(form),
         None => Reason::NoSuchLine,
-    }
-}
-
-/// The node that a line names, if it names one.
-pub fn node_of(line: &ScriptLine<'_>) -> Option<Id> {
-    match line {
-        ScriptLine::Skip => None,
-        ScriptLine::Cluster { id }
-        | ScriptLine::Elect { id }
-        | ScriptLine::Apply { id }
-        | ScriptLine::Execute { id, body: _ }
-        | ScriptLine::Query { id, body: _ }
-        | ScriptLine::Stop { id }
-        | ScriptLine::StopWithin {
-            id,
-            calls: _,
-            pick: _,
-        }
-        | ScriptLine::Start { id }
-        | ScriptLine::Show { id } => Some(*id),
     }
 }
 

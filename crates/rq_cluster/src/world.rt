@@ -5,21 +5,22 @@ ghost use Rattle.rq_json.specs.Body.{texts_of};
 ghost use Rattle.rq_node.specs.Sound.{IsReadable};
 ghost use Rattle.rq_script.specs.Cluster.{Cluster as TheCluster, Steps, IsOutside, MayReach};
 ghost use Rattle.rq_script.specs.Preparing.{AreRead};
-ghost use Rattle.rq_script.specs.ReadLine.{line_read, HasPick};
+ghost use Rattle.rq_script.specs.ReadLine.{action_read, line_read, HasPick, HasPickAt};
 ghost use Rattle.rq_script.specs.ScriptLine as lines;
 ghost use Rattle.rq_script.specs.ScriptText.{pending_text};
-ghost use Rattle.rq_cluster.specs.Refines.{ServerReady, IsReady, ShowsCluster, Shows, Does, Breaks, DoesLine, IsOutsideHere, BreaksLine, pending_in};
+ghost use Rattle.rq_cluster.specs.Refines.{HostReady, ServerReady, with_host, IsReady, ShowsCluster, Shows, Does, Breaks, DoesLine, IsOutsideHere, BreaksLine, pending_in};
+ghost use Rattle.rq_cluster.specs.Events.{IsEvent};
 ghost use Rattle.rq_cluster.specs.Recovery.{Holds};
 ghost use Rattle.rq_cluster.specs.declared.line_error.LineError.TheVariants.{Outside, NoMemory as OutOfMemory};
 
 use crate::arming::Arming;
 use crate::host::Host;
 use crate::line_error::LineError;
-use crate::preparing::items_of;
-use crate::reason::{Reason, misspelled, node_of};
+use crate::preparing::event_of;
+use crate::reason::{Reason, misspelled};
 use crate::recovery::refined_clusters_stand;
 use rq_outside::{CrashDisk, DiskPair};
-use rq_script::{ScriptLine, script_line};
+use rq_script::{Action, ScriptLine, script_line};
 use rq_values::{Id, NoMemory};
 use rq_wal::current_logs_stand;
 use std::alloc::Global;
@@ -90,13 +91,11 @@ impl World {
                 _ => Reason::NoCluster,
             };
         };
-        match node_of(&read) {
-            None => Reason::NoSuchLine,
-            Some(id) if *host.id() != id => match read {
-                ScriptLine::Cluster { id: _ } => Reason::SecondCluster,
-                _ => Reason::NoNode(id),
-            },
-            Some(id) => reason_at(&read, id, host.is_running(), line),
+        match read {
+            ScriptLine::Skip => Reason::NoSuchLine,
+            ScriptLine::Cluster { id: _ } => Reason::SecondCluster,
+            ScriptLine::At { id, action: _ } if *host.id() != id => Reason::NoNode(id),
+            ScriptLine::At { id, action } => reason_at(&action, id, host.is_running(), line),
         }
     }
 
@@ -140,14 +139,7 @@ impl World {
         match line {
             ScriptLine::Skip => Ok(()),
             ScriptLine::Cluster { id } => self.found(alloc, disks, *id, text),
-            ScriptLine::Elect { id } => self.elect(alloc, disks, *id, text),
-            ScriptLine::Apply { id } => self.apply(alloc, disks, *id, text),
-            ScriptLine::Execute { id, body } => self.execute(alloc, disks, *id, body, text),
-            ScriptLine::Query { id, body } => self.query(alloc, disks, *id, body, text),
-            ScriptLine::Stop { id } => self.stop(disks, *id, text),
-            ScriptLine::StopWithin { id, calls, pick } => self.arm(disks, *id, *calls, *pick),
-            ScriptLine::Start { id } => self.start(alloc, disks, *id, text),
-            ScriptLine::Show { id } => self.show(alloc, disks, *id, text),
+            ScriptLine::At { id, action } => self.act(alloc, disks, *id, action, text),
         }
     }
 
@@ -175,20 +167,22 @@ impl World {
         Ok(())
     }
 
-    /// Lets the node with this id stand for election.
-    fn elect<D: CrashDisk>(
+    /// Does an action at the server with this id.
+    fn act<D: CrashDisk>(
         &mut self,
         alloc: Global,
         disks: &mut DiskPair<D>,
         id: Id,
+        action: &Action<'_>,
         text: &mut Vec<u8>,
     ) -> Result<(), LineError>
         requires ready { ServerReady D.told D.means disks.old self.old.host }
-        ensures ok { OnOk result (DoesLine D.told D.means (lines.Elect id) disks.old disks.new self.old self.new text.old.items text.new.items) }
+        requires pick { HasPickAt action.now }
+        ensures ok { OnOk result (DoesLine D.told D.means (lines.At id (action_read action.now)) disks.old disks.new self.old self.new text.old.items text.new.items) }
         ensures ready { OnOk result (ServerReady D.told D.means disks.new self.new.host) }
-        ensures outside { IsErrOf result Outside → IsOutsideHere D.told D.means (lines.Elect id) disks.old self.old }
+        ensures outside { IsErrOf result Outside → IsOutsideHere D.told D.means (lines.At id (action_read action.now)) disks.old self.old }
         ensures untouched { IsErrOf result Outside → disks.new ≡ disks.old }
-        ensures broken { IsErrOf result OutOfMemory → BreaksLine D.told D.means (lines.Elect id) disks.old disks.new self.old }
+        ensures broken { IsErrOf result OutOfMemory → BreaksLine D.told D.means (lines.At id (action_read action.now)) disks.old disks.new self.old }
     {
         let Some(host) = &mut self.host else {
             return Err(LineError::Outside);
@@ -196,228 +190,93 @@ impl World {
         if *host.id() != id {
             return Err(LineError::Outside);
         }
-        host.elect(alloc, disks, text)?;
-        Ok(())
-    }
-
-    /// Lets the node with this id apply what is committed.
-    fn apply<D: CrashDisk>(
-        &mut self,
-        alloc: Global,
-        disks: &mut DiskPair<D>,
-        id: Id,
-        text: &mut Vec<u8>,
-    ) -> Result<(), LineError>
-        requires ready { ServerReady D.told D.means disks.old self.old.host }
-        ensures ok { OnOk result (DoesLine D.told D.means (lines.Apply id) disks.old disks.new self.old self.new text.old.items text.new.items) }
-        ensures ready { OnOk result (ServerReady D.told D.means disks.new self.new.host) }
-        ensures outside { IsErrOf result Outside → IsOutsideHere D.told D.means (lines.Apply id) disks.old self.old }
-        ensures untouched { IsErrOf result Outside → disks.new ≡ disks.old }
-        ensures broken { IsErrOf result OutOfMemory → BreaksLine D.told D.means (lines.Apply id) disks.old disks.new self.old }
-    {
-        current_logs_stand::<D>();
-        let Some(host) = &mut self.host else {
-            return Err(LineError::Outside);
-        };
-        if *host.id() != id {
-            return Err(LineError::Outside);
-        }
-        let _disks = disks;
-        host.apply(alloc, text)?;
-        Ok(())
-    }
-
-    /// Puts a list to the node with this id.
-    fn execute<D: CrashDisk>(
-        &mut self,
-        alloc: Global,
-        disks: &mut DiskPair<D>,
-        id: Id,
-        body: &[u8],
-        text: &mut Vec<u8>,
-    ) -> Result<(), LineError>
-        requires ready { ServerReady D.told D.means disks.old self.old.host }
-        ensures ok { OnOk result (DoesLine D.told D.means (lines.Execute id body.now) disks.old disks.new self.old self.new text.old.items text.new.items) }
-        ensures ready { OnOk result (ServerReady D.told D.means disks.new self.new.host) }
-        ensures outside { IsErrOf result Outside → IsOutsideHere D.told D.means (lines.Execute id body.now) disks.old self.old }
-        ensures untouched { IsErrOf result Outside → disks.new ≡ disks.old }
-        ensures broken { IsErrOf result OutOfMemory → BreaksLine D.told D.means (lines.Execute id body.now) disks.old disks.new self.old }
-    {
-        current_logs_stand::<D>();
-        let Some(host) = &mut self.host else {
-            return Err(LineError::Outside);
-        };
-        if *host.id() != id {
-            return Err(LineError::Outside);
-        }
-        let Some(items) = items_of(alloc, body)? else {
-            return Err(LineError::Outside);
-        };
-        let number = self.asks.checked_add(1).ok_or(NoMemory)?;
-        self.asks = number;
-        host.execute(alloc, disks, number, items, text)?;
-        Ok(())
-    }
-
-    /// Puts queries to the node with this id.
-    fn query<D: CrashDisk>(
-        &mut self,
-        alloc: Global,
-        disks: &mut DiskPair<D>,
-        id: Id,
-        body: &[u8],
-        text: &mut Vec<u8>,
-    ) -> Result<(), LineError>
-        requires ready { ServerReady D.told D.means disks.old self.old.host }
-        ensures ok { OnOk result (DoesLine D.told D.means (lines.Query id body.now) disks.old disks.new self.old self.new text.old.items text.new.items) }
-        ensures ready { OnOk result (ServerReady D.told D.means disks.new self.new.host) }
-        ensures outside { IsErrOf result Outside → IsOutsideHere D.told D.means (lines.Query id body.now) disks.old self.old }
-        ensures untouched { IsErrOf result Outside → disks.new ≡ disks.old }
-        ensures broken { IsErrOf result OutOfMemory → BreaksLine D.told D.means (lines.Query id body.now) disks.old disks.new self.old }
-    {
-        current_logs_stand::<D>();
-        let Some(host) = &mut self.host else {
-            return Err(LineError::Outside);
-        };
-        if *host.id() != id {
-            return Err(LineError::Outside);
-        }
-        let _disks = disks;
-        let Some(items) = items_of(alloc, body)? else {
-            return Err(LineError::Outside);
-        };
-        let number = self.asks.checked_add(1).ok_or(NoMemory)?;
-        self.asks = number;
-        host.query(alloc, number, items.as_slice(), text)?;
-        Ok(())
-    }
-
-    /// Stops the node with this id at once.
-    fn stop<D: CrashDisk>(
-        &mut self,
-        disks: &mut DiskPair<D>,
-        id: Id,
-        text: &mut Vec<u8>,
-    ) -> Result<(), LineError>
-        requires ready { ServerReady D.told D.means disks.old self.old.host }
-        ensures ok { OnOk result (DoesLine D.told D.means (lines.Stop id) disks.old disks.new self.old self.new text.old.items text.new.items) }
-        ensures ready { OnOk result (ServerReady D.told D.means disks.new self.new.host) }
-        ensures outside { IsErrOf result Outside → IsOutsideHere D.told D.means (lines.Stop id) disks.old self.old }
-        ensures untouched { IsErrOf result Outside → disks.new ≡ disks.old }
-        ensures broken { IsErrOf result OutOfMemory → BreaksLine D.told D.means (lines.Stop id) disks.old disks.new self.old }
-    {
-        let Some(host) = &mut self.host else {
-            return Err(LineError::Outside);
-        };
-        if *host.id() != id {
-            return Err(LineError::Outside);
-        }
-        if !host.is_running() {
-            return Err(LineError::Outside);
-        }
-        host.stop(disks, text)?;
-        Ok(())
-    }
-
-    /// Lets the node with this id go down in the event that needs more than so many changing calls.
-    fn arm<D: CrashDisk>(
-        &mut self,
-        disks: &mut DiskPair<D>,
-        id: Id,
-        calls: u64,
-        pick: u8,
-    ) -> Result<(), LineError>
-        requires ready { ServerReady D.told D.means disks.old self.old.host }
-        requires pick { pick < 4 }
-        ensures ok { OnOk result (DoesLine D.told D.means (lines.StopWithin id calls pick) disks.old disks.new self.old self.new [] []) }
-        ensures ready { OnOk result (ServerReady D.told D.means disks.new self.new.host) }
-        ensures outside { IsErrOf result Outside → IsOutsideHere D.told D.means (lines.StopWithin id calls pick) disks.old self.old }
-        ensures untouched { IsErrOf result Outside → disks.new ≡ disks.old }
-        ensures broken { IsErrOf result OutOfMemory → BreaksLine D.told D.means (lines.StopWithin id calls pick) disks.old disks.new self.old }
-    {
-        let Some(host) = &mut self.host else {
-            return Err(LineError::Outside);
-        };
-        if *host.id() != id {
-            return Err(LineError::Outside);
-        }
-        if !host.is_running() {
-            return Err(LineError::Outside);
-        }
-        host.arm(disks, Arming { calls, pick });
-        Ok(())
-    }
-
-    /// Starts the node with this id, which is down.
-    fn start<D: CrashDisk>(
-        &mut self,
-        alloc: Global,
-        disks: &mut DiskPair<D>,
-        id: Id,
-        text: &mut Vec<u8>,
-    ) -> Result<(), LineError>
-        requires ready { ServerReady D.told D.means disks.old self.old.host }
-        ensures ok { OnOk result (DoesLine D.told D.means (lines.Start id) disks.old disks.new self.old self.new text.old.items text.new.items) }
-        ensures ready { OnOk result (ServerReady D.told D.means disks.new self.new.host) }
-        ensures outside { IsErrOf result Outside → IsOutsideHere D.told D.means (lines.Start id) disks.old self.old }
-        ensures untouched { IsErrOf result Outside → disks.new ≡ disks.old }
-        ensures broken { IsErrOf result OutOfMemory → BreaksLine D.told D.means (lines.Start id) disks.old disks.new self.old }
-    {
-        let Some(host) = &mut self.host else {
-            return Err(LineError::Outside);
-        };
-        if *host.id() != id {
-            return Err(LineError::Outside);
-        }
-        if host.is_running() {
-            return Err(LineError::Outside);
-        }
-        host.start(alloc, disks, text)?;
-        Ok(())
-    }
-
-    /// Prints the node with this id.
-    fn show<D: CrashDisk>(
-        &mut self,
-        alloc: Global,
-        disks: &mut DiskPair<D>,
-        id: Id,
-        text: &mut Vec<u8>,
-    ) -> Result<(), LineError>
-        requires ready { ServerReady D.told D.means disks.old self.old.host }
-        ensures ok { OnOk result (DoesLine D.told D.means (lines.Show id) disks.old disks.new self.old self.new text.old.items text.new.items) }
-        ensures ready { OnOk result (ServerReady D.told D.means disks.new self.new.host) }
-        ensures outside { IsErrOf result Outside → IsOutsideHere D.told D.means (lines.Show id) disks.old self.old }
-        ensures untouched { IsErrOf result Outside → disks.new ≡ disks.old }
-        ensures broken { IsErrOf result OutOfMemory → BreaksLine D.told D.means (lines.Show id) disks.old disks.new self.old }
-    {
-        current_logs_stand::<D>();
-        let Some(host) = &mut self.host else {
-            return Err(LineError::Outside);
-        };
-        if *host.id() != id {
-            return Err(LineError::Outside);
-        }
-        let _disks = disks;
-        host.show(alloc, text)?;
-        Ok(())
+        act_at(host, &mut self.asks, alloc, disks, action, text)
     }
 }
 
-/// Why a line can't stand that names a node of the cluster.
-fn reason_at(read: &ScriptLine<'_>, id: Id, is_running: bool, line: &[u8]) -> Reason {
-    match read {
-        ScriptLine::Cluster { id: _ } => Reason::SecondCluster,
-        ScriptLine::Execute { id: _, body: _ } | ScriptLine::Query { id: _, body: _ } => {
-            Reason::NoStatements
+/// Does an action at a server, where there were so many asks.
+fn act_at<D: CrashDisk>(
+    host: &mut Host,
+    asks: &mut u64,
+    alloc: Global,
+    disks: &mut DiskPair<D>,
+    action: &Action<'_>,
+    text: &mut Vec<u8>,
+) -> Result<(), LineError>
+    requires ready { HostReady D.told D.means disks.old host.old }
+    requires pick { HasPickAt action.now }
+    ensures ok { OnOk result (DoesLine D.told D.means (lines.At host.old.id (action_read action.now)) disks.old disks.new (with_host host.old asks.old) (with_host host.new asks.new) text.old.items text.new.items) }
+    ensures ready { OnOk result (HostReady D.told D.means disks.new host.new) }
+    ensures outside { IsErrOf result Outside → IsOutsideHere D.told D.means (lines.At host.old.id (action_read action.now)) disks.old (with_host host.old asks.old) }
+    ensures untouched { IsErrOf result Outside → disks.new ≡ disks.old }
+    ensures broken { IsErrOf result OutOfMemory → BreaksLine D.told D.means (lines.At host.old.id (action_read action.now)) disks.old disks.new (with_host host.old asks.old) }
+{
+    current_logs_stand::<D>();
+    match action {
+        Action::Elect => put(host, asks, alloc, disks, action, text),
+        Action::Apply => put(host, asks, alloc, disks, action, text),
+        Action::Execute { body: _ } => put(host, asks, alloc, disks, action, text),
+        Action::Query { body: _ } => put(host, asks, alloc, disks, action, text),
+        Action::Stop => {
+            if !host.is_running() {
+                return Err(LineError::Outside);
+            }
+            host.stop(disks, text)?;
+            Ok(())
         }
-        ScriptLine::Stop { id: _ }
-        | ScriptLine::StopWithin {
-            id: _,
-            calls: _,
-            pick: _,
-        } if !is_running => Reason::Down(id),
-        ScriptLine::Start { id: _ } if is_running => Reason::Running(id),
+        Action::StopWithin { calls, pick } => {
+            if !host.is_running() {
+                return Err(LineError::Outside);
+            }
+            let (calls, pick) = (*calls, *pick);
+            host.arm(disks, Arming { calls, pick });
+            Ok(())
+        }
+        Action::Start => {
+            if host.is_running() {
+                return Err(LineError::Outside);
+            }
+            host.start(alloc, disks, text)?;
+            Ok(())
+        }
+        Action::Show => {
+            host.show(alloc, text)?;
+            Ok(())
+        }
+    }
+}
+
+/// Puts an event to the node of a server.
+fn put<D: CrashDisk>(
+    host: &mut Host,
+    asks: &mut u64,
+    alloc: Global,
+    disks: &mut DiskPair<D>,
+    action: &Action<'_>,
+    text: &mut Vec<u8>,
+) -> Result<(), LineError>
+    requires ready { HostReady D.told D.means disks.old host.old }
+    requires puts { IsEvent (action_read action.now) }
+    ensures ok { OnOk result (DoesLine D.told D.means (lines.At host.old.id (action_read action.now)) disks.old disks.new (with_host host.old asks.old) (with_host host.new asks.new) text.old.items text.new.items) }
+    ensures ready { OnOk result (HostReady D.told D.means disks.new host.new) }
+    ensures outside { IsErrOf result Outside → IsOutsideHere D.told D.means (lines.At host.old.id (action_read action.now)) disks.old (with_host host.old asks.old) }
+    ensures untouched { IsErrOf result Outside → disks.new ≡ disks.old }
+    ensures broken { IsErrOf result OutOfMemory → BreaksLine D.told D.means (lines.At host.old.id (action_read action.now)) disks.old disks.new (with_host host.old asks.old) }
+{
+    current_logs_stand::<D>();
+    let Some(event) = event_of(alloc, asks, action)? else {
+        return Err(LineError::Outside);
+    };
+    host.turn(alloc, disks, event, text)?;
+    Ok(())
+}
+
+/// Why a line can't stand that names a node of the cluster.
+fn reason_at(action: &Action<'_>, id: Id, is_running: bool, line: &[u8]) -> Reason {
+    match action {
+        Action::Execute { body: _ } | Action::Query { body: _ } => Reason::NoStatements,
+        Action::Stop | Action::StopWithin { calls: _, pick: _ } if !is_running => Reason::Down(id),
+        Action::Start if is_running => Reason::Running(id),
         _ => misspelled(line),
     }
 }

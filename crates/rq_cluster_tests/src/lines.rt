@@ -1,6 +1,6 @@
 use rq_request::{Answer, NodeRefusal, Say};
 use rq_script::{
-    ScriptLine, script_line, write_all_pending, write_answers, write_down, write_show_down,
+    Action, ScriptLine, script_line, write_all_pending, write_answers, write_down, write_show_down,
 };
 use rq_values::Id;
 use std::test::Fail;
@@ -26,10 +26,17 @@ fn of_n1(id: &Id, reading: Reading) -> Reading {
 
 fn line_read(line: &ScriptLine) -> Reading {
     match line {
-        ScriptLine::Stop { id } => of_n1(id, Reading::Stop),
-        ScriptLine::StopWithin { id, calls, pick } => of_n1(id, within(*calls, *pick)),
-        ScriptLine::Start { id } => of_n1(id, Reading::Start),
-        ScriptLine::Show { id } => of_n1(id, Reading::Show),
+        ScriptLine::At { id, action } => of_n1(id, action_read(action)),
+        _ => Reading::Other,
+    }
+}
+
+fn action_read(action: &Action) -> Reading {
+    match action {
+        Action::Stop => Reading::Stop,
+        Action::StopWithin { calls, pick } => within(*calls, *pick),
+        Action::Start => Reading::Start,
+        Action::Show => Reading::Show,
         _ => Reading::Other,
     }
 }

@@ -6,3 +6,4 @@ mod NodeSteps
 mod Openings
 mod Readable
 mod Refusals
+mod Turning

@@ -1,9 +1,7 @@
 -- What a node's parts keep.
-use Rattle.std.specs.Prelude.{◌≡◌, ◌≤◌, ℕ, true, List, length, All, ⊤}
-use Rattle.rq_values.specs.Text.{is_text}
-use Rattle.rq_statement.specs.declared.item.Item.{Item}
+pub use Rattle.rq_command.specs.Stored.{IsReadable}
+use Rattle.std.specs.Prelude.{◌≤◌, ℕ, List, length, All, ⊤}
 use Rattle.rq_engine.specs.Command.{execute_bytes}
-use Rattle.rq_command.specs.Stored.{text_of, IsStored}
 use Rattle.rq_node.specs.declared.log_entry.LogEntry.{LogEntry}
 use Rattle.rq_node.specs.declared.log_entry.Content.{Content}
 use Rattle.rq_node.specs.declared.log_entry.Content.TheVariants.{NoOp, Execute}
@@ -11,10 +9,6 @@ use Rattle.rq_node.specs.declared.log_entry.Content.TheVariants.{NoOp, Execute}
 -- the most bytes of an entry's command
 abbrev pub most_bytes : ℕ
 most_bytes = 8388608
-
--- the item's text in the log is read as the item again
-abbrev pub IsReadable : Item → Type 0
-IsReadable item = (is_text (text_of item) ≡ true) × IsStored item
 
 -- what the entry holds is read from the log again
 abbrev pub IsPersistentReadable : Content → Type 0

@@ -4,6 +4,7 @@
 #![tactic(auto)]
 
 mod error;
+mod event;
 mod log_entry;
 mod node;
 mod role;
@@ -11,6 +12,7 @@ mod turn_error;
 mod waiting;
 
 pub use error::NodeError;
+pub use event::{Effects, Event};
 pub use log_entry::{Content, LogEntry};
 pub use node::{Node, State};
 pub use role::Role;

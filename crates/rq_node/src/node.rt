@@ -1,5 +1,5 @@
 //! A running node with its log files: docs/RAFT.md.
-ghost use Rattle.std.specs.Prelude.{◌≡◌, ◌⊎◌, ◌<◌, ◌+◌, ◌++◌, ◌∷◌, ◌*◌, ◌^◌, [], List, ℕ, length, map, IsTrue, OnOk, IfOk, IsErrOf, is_some, true};
+ghost use Rattle.std.specs.Prelude.{◌≡◌, ◌⊎◌, ◌<◌, ◌+◌, ◌++◌, ◌∷◌, ◌*◌, ◌^◌, [], List, ℕ, length, map, IsTrue, OnOk, IfOk, IfErr, IsErrOf, is_some, true};
 ghost use Rattle.rq_outside.specs.Pair.{arm_of, UsedCalls, PairRose};
 ghost use Rattle.rq_wire.specs.declared.frame.Frame.TheVariants.{Splice};
 ghost use Rattle.rq_outside.specs.declared.pair.Arm.TheVariants.{Struck};
@@ -7,14 +7,19 @@ ghost use Rattle.rq_wal.specs.Calls.{PassesMost};
 ghost use Rattle.rq_wal.specs.Later.{Later, DeviceRose};
 ghost use Rattle.rq_node.specs.declared.turn_error.TurnError.TheVariants.{Disk as DiskFailed, NoMemory as OutOfMemory};
 ghost use Rattle.rq_wal.specs.Rules.{AreAllowed};
+ghost use Rattle.rq_node.specs.Events.{rule, Brings, IsEventReadable, IsKept, IsLeft, IsModest};
 ghost use Rattle.rq_node.specs.Files.{frame_of, stored_of};
-ghost use Rattle.rq_node.specs.Node.{Persistent, StoredRecord, persistent_after};
-ghost use Rattle.rq_node.specs.Recovery.{HasFile, IsBroken, Moments};
+ghost use Rattle.rq_node.specs.Node.{Persistent, StoredRecord, persistent_of, persistent_after};
+ghost use Rattle.rq_node.specs.Recovery.{HasFile, IsBroken, IsOpen, Moments};
+ghost use Rattle.rq_node.specs.Rules.{apply};
+ghost use Rattle.rq_node.specs.Sound.{AreReadable};
 
+use crate::event::{Effects, Event};
 use crate::log_entry::LogEntry;
 use crate::role::Role;
 use crate::turn_error::TurnError;
 use crate::waiting::Waiting;
+use rq_command::items_can_be_read;
 use rq_engine::Tables;
 use rq_outside::{Disk, DiskPair};
 use rq_values::{Id, NoMemory, Seq};
@@ -46,14 +51,13 @@ pub struct State {
 
 impl Model for State {
     ghost use Rattle.std.specs.Coded.{codes};
-    ghost use Rattle.rq_grammar.specs.contracts.expr.Expr as expr;
-    ghost use Rattle.rq_grammar.specs.contracts.stmt.Stmt as stmt;
+    ghost use Rattle.rq_statement.specs.contracts.item.Item as item;
     ghost use Rattle.rq_node.specs.Node.{Node};
     ghost use Rattle.rq_node.specs.Sound.{IsSound};
 
     ghost Value = { Node };
 
-    ghost coded = { Prim.hlevel (codes, expr.the_row.coded, stmt.the_row.coded) };
+    ghost coded = { Prim.hlevel (codes, item.the_row.coded) };
 
     ghost view = { λ s. record {
       id = s.id;
@@ -129,11 +133,89 @@ impl State {
         self.last().checked_add(1).ok_or(NoMemory)
     }
 
+    /// The log can be read from its file again. This changes nothing.
+    fn know_log(&self)
+        ensures { AreReadable self.now.log }
+    {
+        let _length = self.log.len();
+    }
+
     /// The asks that wait, in rising order of indexes, in two pieces.
     pub fn waiting(&self) -> (&[Waiting], &[Waiting])
         ensures { result.0.now ++ result.1.now ≡ self.now.waiting }
     {
         self.waiting.as_slices()
+    }
+}
+
+impl Node {
+    /// Does what the rule of this event says. What it stores is durable when the answers are there.
+    #[tactic(auto, using(crate::proofs::FileSteps::none_made, crate::proofs::FileSteps::later_same, crate::proofs::Turning::apply_stores))]
+    pub fn turn<D: Disk>(
+        &mut self,
+        alloc: Global,
+        disks: &mut DiskPair<D>,
+        event: Event,
+    ) -> Result<Effects, TurnError>
+        requires open { IsOpen D.told D.means disks.old self.old }
+        ensures ok { OnOk result (self.new.state ≡ (rule event self.old.state).node) }
+        ensures effects { IfOk result (Brings (rule event self.old.state)) }
+        ensures open { OnOk result (IsOpen D.told D.means disks.new self.new) }
+        ensures calls { OnOk result (UsedCalls (4 * length (rule event self.old.state).records) (arm_of disks.old) (arm_of disks.new)) }
+        ensures failed { IsErrOf result DiskFailed → IsBroken D.told D.means disks.old disks.new self.old.state.id (persistent_of self.old.state) (rule event self.old.state).records }
+        ensures moments { Moments D.told D.means disks.old disks.new self.old.state.id (persistent_of self.old.state) (rule event self.old.state).records }
+        ensures most { PassesMost (4 * length (rule event self.old.state).records) (arm_of disks.old) (arm_of disks.new) }
+        ensures stopped { IsErrOf result DiskFailed → self.new.state ≡ self.old.state }
+        ensures no_memory { IsErrOf result OutOfMemory → IsLeft event self.old.state self.new.state × IsOpen D.told D.means disks.new self.new }
+        ensures no_memory_arm { IsErrOf result OutOfMemory → arm_of disks.new ≡ arm_of disks.old }
+        ensures later { Later D.means disks.old disks.new }
+        ensures modest { IsModest self.old.state (rule event self.old.state) }
+    {
+        know_rule(&self.state, &event);
+        match event {
+            Event::Execute { number, items } => self.execute(alloc, disks, number, items),
+            Event::Query { number, items } => {
+                Ok(self.state.query(alloc, number, items.as_slice())?)
+            }
+            Event::Elect => self.elect(alloc, disks),
+            Event::Apply => self.apply(alloc),
+        }
+    }
+
+    /// Applies what is committed.
+    fn apply(&mut self, alloc: Global) -> Result<Effects, TurnError>
+        ensures ok { OnOk result (self.new.state ≡ (apply self.old.state).node) }
+        ensures effects { IfOk result (Brings (apply self.old.state)) }
+        ensures kept { IsKept self.old.state self.new.state }
+        ensures file { self.new.file ≡ self.old.file }
+        ensures refused { IfErr result (λ e. e ≡ OutOfMemory) }
+    {
+        let answers = self.state.apply(alloc)?;
+        Ok(Effects { stored: 0, answers })
+    }
+}
+
+/// What the rule of an event leaves as it is. This changes nothing.
+#[tactic(auto, using(crate::proofs::Turning::modest))]
+fn know_rule(state: &State, event: &Event)
+    ensures { IsModest state.now (rule event.now state.now) }
+{
+    state.know_log();
+    know_event(event);
+}
+
+/// What an event in memory would store can be read again from the log. This changes nothing.
+fn know_event(event: &Event)
+    ensures { IsEventReadable event.now }
+{
+    match event {
+        Event::Execute { number: _, items } => items_can_be_read(items.as_slice()),
+        Event::Query {
+            number: _,
+            items: _,
+        }
+        | Event::Elect
+        | Event::Apply => {}
     }
 }
 

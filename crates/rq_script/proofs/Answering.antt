@@ -15,7 +15,7 @@ use Rattle.rq_node.specs.Node.{Node, Persistent, StoredRecord, Turn, unchanged, 
 use Rattle.rq_node.specs.Rules.{is_leader, led, elect, taken_up, execute_sized, left_waiting, applied_content, applied_entry, apply_next, apply_times, execute, query, apply}
 use Rattle.rq_node.specs.Sound.{most_bytes}
 use Rattle.rq_node.specs.Files.{first_persistent}
-use Rattle.rq_script.specs.ScriptLine.{Line, Skip, Cluster as ClusterLine, Elect, Apply, Execute, Query, Stop, StopWithin, Start, Show, line_of}
+use Rattle.rq_script.specs.ScriptLine.{Line, Skip, Cluster as ClusterLine, At, Elect, Apply, Execute, Query, Stop, StopWithin, Start, Show, line_of}
 use Rattle.rq_script.specs.Cluster.{Stand, Running, Down, Server, Cluster, Written, new_server, Fault, NoFault, Reading, Storing, Course, Fate, Done, Struck, Failed, fate, ended, happens_at, opens, starts, stops, arms, shown, at_server, event_at, ask_at, founded, done, step}
 use Rattle.rq_script.specs.Runs.{Runs}
 use Rattle.rq_script.specs.History.{Note, node_at, node_in, history}
@@ -211,16 +211,16 @@ module _ (chosen : List LogEntry) (book : List Note) where
   line_due : (c : Cluster) (line : Line) (items : List Item) (course : Course) → FitsAt chosen book c.server → DueAt c.server → MayDue (done items course c line)
   line_due c Skip items course fits due = due
   line_due c (ClusterLine id) items course fits due = found_due c course id
-  line_due c (Elect id) items course fits due = server_due c id (λ s. Some (happens_at course s elect [])) fits due (event_due course elect [] (λ n stands covers now. elect_due n stands.inside now))
-  line_due c (Apply id) items course fits due =
+  line_due c (At id Elect) items course fits due = server_due c id (λ s. Some (happens_at course s elect [])) fits due (event_due course elect [] (λ n stands covers now. elect_due n stands.inside now))
+  line_due c (At id Apply) items course fits due =
       server_due c id (λ s. Some (happens_at course s apply [])) fits due (event_due course apply [] (λ n stands covers now. apply_due n (answers_all chosen book n stands covers now)))
-  line_due c (Execute id body) items course fits due =
+  line_due c (At id (Execute body)) items course fits due =
       asked_due c course id body (λ number read n. execute n number read) items fits due (λ n stands covers now. execute_due n (c.asks + 1) items stands.within stands.inside now)
-  line_due c (Query id body) items course fits due = asked_due c course id body (λ number read n. query n number read) items fits due (λ n stands covers now. now)
-  line_due c (Stop id) items course fits due = server_due c id stops fits due stop_due
-  line_due c (StopWithin id calls pick) items course fits due = server_due c id (arms calls pick) fits due (arm_due calls pick)
-  line_due c (Start id) items course fits due = server_due c id (starts course) fits due (start_due course)
-  line_due c (Show id) items course fits due = server_due c id (λ s. Some (s, shown s.id s.stand)) fits due (λ s stand here now. now)
+  line_due c (At id (Query body)) items course fits due = asked_due c course id body (λ number read n. query n number read) items fits due (λ n stands covers now. now)
+  line_due c (At id Stop) items course fits due = server_due c id stops fits due stop_due
+  line_due c (At id (StopWithin calls pick)) items course fits due = server_due c id (arms calls pick) fits due (arm_due calls pick)
+  line_due c (At id Start) items course fits due = server_due c id (starts course) fits due (start_due course)
+  line_due c (At id Show) items course fits due = server_due c id (λ s. Some (s, shown s.id s.stand)) fits due (λ s stand here now. now)
 
   step_due : (c : Cluster) (bytes : List ℕ) (items : List Item) (course : Course) → FitsAt chosen book c.server → DueAt c.server → MayDue (step items course c bytes)
   unfolding step

@@ -17,7 +17,7 @@ use Rattle.rq_node.specs.Node.{Node, Persistent, StoredRecord, Vote, Splice, Boo
 use Rattle.rq_node.specs.Rules.{is_leader, led, elect, taken_up, execute_sized, applied_content, applied_entry, apply_next, apply_times, execute, query, apply}
 use Rattle.rq_node.specs.Sound.{most_bytes}
 use Rattle.rq_node.specs.Files.{first_persistent}
-use Rattle.rq_script.specs.ScriptLine.{Line, Skip, Cluster as ClusterLine, Elect, Apply, Execute, Query, Stop, StopWithin, Start, Show, line_of}
+use Rattle.rq_script.specs.ScriptLine.{Line, Skip, Cluster as ClusterLine, At, Elect, Apply, Execute, Query, Stop, StopWithin, Start, Show, line_of}
 use Rattle.rq_script.specs.Cluster.{Stand, Running, Down, Server, Cluster, Written, new_server, Fault, NoFault, Reading, Storing, Course, Fate, Done, Struck, Failed, fate, ended, happens_at, opens, starts, stops, arms, shown, at_server, event_at, ask_at, founded, done, step}
 use Rattle.rq_script.specs.Runs.{Runs}
 use Rattle.rq_script.specs.History.{Op, Write, Note, Asked, said, asking, notes, notes_of, history}
@@ -269,18 +269,18 @@ line_makes : (book : List Note) (c : Cluster) (line : Line) (items : List Item) 
     → MayMake (book ++ notes c line items course) (done items course c line)
 line_makes book c Skip items course fresh from = skip_line book c c.server from
 line_makes book c (ClusterLine id) items course fresh from = found_line book c course id
-line_makes book c (Elect id) items course fresh from = server_makes book [] c id (λ s. Some (happens_at course s elect [])) from (elect_line book c.asks course)
-line_makes book c (Apply id) items course fresh from = server_makes book (notes c (Apply id) items course) c id (λ s. Some (happens_at course s apply [])) from (apply_line book (notes c (Apply id) items course) c.asks course)
-line_makes book c (Execute id body) items course fresh from =
-    asked_line book (notes c (Execute id body) items course) c course id body (λ number read n. execute n number read) items from
-    (λ n here. execute_makes book (notes c (Execute id body) items course) c.asks n items (asking_op book course c.server (c.asks + 1) (Write items) (λ n. execute n (c.asks + 1) items) fresh) here)
-line_makes book c (Query id body) items course fresh from =
-    asked_line book (notes c (Query id body) items course) c course id body (λ number read n. query n number read) items from
-    (λ n here. says_makes (book ++ notes c (Query id body) items course) (c.asks + 1) n (c.asks + 1) (Results (answers n.database items)) (more_asked book (notes c (Query id body) items course) 0 n.log c.asks (c.asks + 1) (omega arith) here))
-line_makes book c (Stop id) items course fresh from = server_makes book [] c id stops from (stop_line book c.asks)
-line_makes book c (StopWithin id calls pick) items course fresh from = server_makes book [] c id (arms calls pick) from (arm_line book c.asks calls pick)
-line_makes book c (Start id) items course fresh from = server_makes book [] c id (starts course) from (start_line book c.asks course)
-line_makes book c (Show id) items course fresh from = server_makes book [] c id (λ s. Some (s, shown s.id s.stand)) from (λ s stand here. no_more book c.asks stand here)
+line_makes book c (At id Elect) items course fresh from = server_makes book [] c id (λ s. Some (happens_at course s elect [])) from (elect_line book c.asks course)
+line_makes book c (At id Apply) items course fresh from = server_makes book (notes c (At id Apply) items course) c id (λ s. Some (happens_at course s apply [])) from (apply_line book (notes c (At id Apply) items course) c.asks course)
+line_makes book c (At id (Execute body)) items course fresh from =
+    asked_line book (notes c (At id (Execute body)) items course) c course id body (λ number read n. execute n number read) items from
+    (λ n here. execute_makes book (notes c (At id (Execute body)) items course) c.asks n items (asking_op book course c.server (c.asks + 1) (Write items) (λ n. execute n (c.asks + 1) items) fresh) here)
+line_makes book c (At id (Query body)) items course fresh from =
+    asked_line book (notes c (At id (Query body)) items course) c course id body (λ number read n. query n number read) items from
+    (λ n here. says_makes (book ++ notes c (At id (Query body)) items course) (c.asks + 1) n (c.asks + 1) (Results (answers n.database items)) (more_asked book (notes c (At id (Query body)) items course) 0 n.log c.asks (c.asks + 1) (omega arith) here))
+line_makes book c (At id Stop) items course fresh from = server_makes book [] c id stops from (stop_line book c.asks)
+line_makes book c (At id (StopWithin calls pick)) items course fresh from = server_makes book [] c id (arms calls pick) from (arm_line book c.asks calls pick)
+line_makes book c (At id Start) items course fresh from = server_makes book [] c id (starts course) from (start_line book c.asks course)
+line_makes book c (At id Show) items course fresh from = server_makes book [] c id (λ s. Some (s, shown s.id s.stand)) from (λ s stand here. no_more book c.asks stand here)
 
 step_makes : (book : List Note) (c : Cluster) (bytes : List ℕ) (items : List Item) (course : Course) → op_of book (c.asks + 1) ≡ None → AskedAt book c.asks c.server
     → MayMake (book ++ notes_of c (line_of bytes) items course) (step items course c bytes)

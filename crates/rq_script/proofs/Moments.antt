@@ -19,7 +19,7 @@ use Rattle.rq_node.specs.Sound.{most_bytes}
 use Rattle.rq_node.specs.Node.{Node, Persistent, StoredRecord, Vote, Splice, Boot, Turn, persistent_of, persistent_after, unchanged, says}
 use Rattle.rq_node.specs.Rules.{is_leader, entry_in, risen, led, elect, taken_up, execute_sized, execute, query, apply, started}
 use Rattle.rq_node.specs.Files.{first_persistent}
-use Rattle.rq_script.specs.ScriptLine.{Line, Skip, Cluster as ClusterLine, Elect, Apply, Execute, Query, Stop, StopWithin, Start, Show}
+use Rattle.rq_script.specs.ScriptLine.{Line, Skip, Cluster as ClusterLine, At, Elect, Apply, Execute, Query, Stop, StopWithin, Start, Show}
 use Rattle.rq_script.specs.Cluster.{Stand, Running, Down, Server, Cluster, Written, new_server, Fault, NoFault, Reading, Storing, Course, Fate, Done, Struck, Failed, fate, gone_down, ended, happens, happens_at, opens, starts, stops, arms, shown, at_server, event_at, ask_at, founded, done}
 use Rattle.rq_script.specs.History.{Op, Write, Read, Note, Asked, Answered, History, said_by, said, applying, node_at, node_in, asking, applying_at, notes, chosen_with}
 use Rattle.rq_script.specs.Promise.{replica, Begins, op_of, IsRight, IsKept, Grows}
@@ -445,14 +445,14 @@ show_good h c s stand sound = stays h c [] s stand (nothing h (record c { server
 pub line_good : (h : History) (c : Cluster) (line : Line) (items : List Item) (course : Course) → Sound h c → MayGo h (notes c line items course) (done items course c line)
 line_good h c Skip items course sound = skip_good h c sound
 line_good h c (ClusterLine id) items course sound = found_good h c course id sound
-line_good h c (Elect id) items course sound = server_good h c id (λ s. Some (happens_at course s elect [])) (λ _. []) sound (elect_good h c course)
-line_good h c (Apply id) items course sound =
+line_good h c (At id Elect) items course sound = server_good h c id (λ s. Some (happens_at course s elect [])) (λ _. []) sound (elect_good h c course)
+line_good h c (At id Apply) items course sound =
     server_good h c id (λ s. Some (happens_at course s apply [])) (λ o. applying_at (option_and_then (λ (s : Server). node_at s.stand) o)) sound (apply_good h c course)
-line_good h c (Execute id body) items course sound =
+line_good h c (At id (Execute body)) items course sound =
     ask_good h c course id body (λ number read n. execute n number read) items (Write items) sound (λ n _ _. execute_asks h.chosen n (c.asks + 1) items)
-line_good h c (Query id body) items course sound =
+line_good h c (At id (Query body)) items course sound =
     ask_good h c course id body (λ number read n. query n number read) items (Read items) sound (λ n stands covers. query_asks h.chosen h.book n (c.asks + 1) items stands covers)
-line_good h c (Stop id) items course sound = server_good h c id stops (λ _. []) sound (stop_good h c)
-line_good h c (StopWithin id calls pick) items course sound = server_good h c id (arms calls pick) (λ _. []) sound (arm_good h c calls pick)
-line_good h c (Start id) items course sound = server_good h c id (starts course) (λ _. []) sound (start_good h c course)
-line_good h c (Show id) items course sound = server_good h c id (λ s. Some (s, shown s.id s.stand)) (λ _. []) sound (show_good h c)
+line_good h c (At id Stop) items course sound = server_good h c id stops (λ _. []) sound (stop_good h c)
+line_good h c (At id (StopWithin calls pick)) items course sound = server_good h c id (arms calls pick) (λ _. []) sound (arm_good h c calls pick)
+line_good h c (At id Start) items course sound = server_good h c id (starts course) (λ _. []) sound (start_good h c course)
+line_good h c (At id Show) items course sound = server_good h c id (λ s. Some (s, shown s.id s.stand)) (λ _. []) sound (show_good h c)

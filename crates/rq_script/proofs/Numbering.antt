@@ -7,7 +7,7 @@ use Rattle.rq_request.specs.declared.say.Answer.{Answer}
 use Rattle.rq_json.specs.Body.{texts_of}
 use Rattle.rq_node.specs.Node.{Node, Turn}
 use Rattle.rq_node.specs.Rules.{elect, execute, query, apply, applied_entry}
-use Rattle.rq_script.specs.ScriptLine.{Line, Skip, Cluster as ClusterLine, Elect, Apply, Execute, Query, Stop, StopWithin, Start, Show, line_of}
+use Rattle.rq_script.specs.ScriptLine.{Line, Skip, Cluster as ClusterLine, At, Elect, Apply, Execute, Query, Stop, StopWithin, Start, Show, line_of}
 use Rattle.rq_script.specs.Cluster.{Stand, Running, Down, Armed, Server, Cluster, Written, Course, Fate, Done, Struck, Failed, fate, shown, happens_at, starts, stops, arms, at_server, event_at, ask_at, founded, done, step}
 use Rattle.rq_script.specs.Runs.{Runs}
 use Rattle.rq_script.specs.History.{Op, Write, Read, Note, Asked, Answered, at_place, said_by, said_at, applying, node_in, asking, applying_at, notes, notes_of, history}
@@ -89,14 +89,14 @@ founds c course id = at c.server
 line_numbers : (c : Cluster) (line : Line) (items : List Item) (course : Course) → MayNumber c.asks (notes c line items course) (done items course c line)
 line_numbers c Skip items course = refl
 line_numbers c (ClusterLine id) items course = founds c course id
-line_numbers c (Elect id) items course = acts c.asks [] c id (λ s. Some (happens_at course s elect [])) refl
-line_numbers c (Apply id) items course = acts c.asks (applying_at (node_in c)) c id (λ s. Some (happens_at course s apply [])) (applies_at c.asks (node_in c))
-line_numbers c (Execute id body) items course = asked c course id body (Write items) (λ number read n. execute n number read) items
-line_numbers c (Query id body) items course = asked c course id body (Read items) (λ number read n. query n number read) items
-line_numbers c (Stop id) items course = acts c.asks [] c id stops refl
-line_numbers c (StopWithin id calls pick) items course = acts c.asks [] c id (arms calls pick) refl
-line_numbers c (Start id) items course = acts c.asks [] c id (starts course) refl
-line_numbers c (Show id) items course = acts c.asks [] c id (λ s. Some (s, shown s.id s.stand)) refl
+line_numbers c (At id Elect) items course = acts c.asks [] c id (λ s. Some (happens_at course s elect [])) refl
+line_numbers c (At id Apply) items course = acts c.asks (applying_at (node_in c)) c id (λ s. Some (happens_at course s apply [])) (applies_at c.asks (node_in c))
+line_numbers c (At id (Execute body)) items course = asked c course id body (Write items) (λ number read n. execute n number read) items
+line_numbers c (At id (Query body)) items course = asked c course id body (Read items) (λ number read n. query n number read) items
+line_numbers c (At id Stop) items course = acts c.asks [] c id stops refl
+line_numbers c (At id (StopWithin calls pick)) items course = acts c.asks [] c id (arms calls pick) refl
+line_numbers c (At id Start) items course = acts c.asks [] c id (starts course) refl
+line_numbers c (At id Show) items course = acts c.asks [] c id (λ s. Some (s, shown s.id s.stand)) refl
 
 step_numbers : (c : Cluster) (bytes : List ℕ) (items : List Item) (course : Course) → MayNumber c.asks (notes_of c (line_of bytes) items course) (step items course c bytes)
 unfolding step

@@ -19,7 +19,7 @@ use Rattle.rq_node.specs.Node.{Node, Persistent, StoredRecord, Turn, unchanged, 
 use Rattle.rq_node.specs.Rules.{is_leader, led, elect, taken_up, execute_sized, answered, left_waiting, applied_content, applied_entry, apply_next, apply_times, execute, query, apply}
 use Rattle.rq_node.specs.Sound.{most_bytes}
 use Rattle.rq_node.specs.Files.{first_persistent}
-use Rattle.rq_script.specs.ScriptLine.{Line, Skip, Cluster as ClusterLine, Elect, Apply, Execute, Query, Stop, StopWithin, Start, Show, line_of}
+use Rattle.rq_script.specs.ScriptLine.{Line, Skip, Cluster as ClusterLine, At, Elect, Apply, Execute, Query, Stop, StopWithin, Start, Show, line_of}
 use Rattle.rq_script.specs.Cluster.{Stand, Running, Down, Server, Cluster, Written, new_server, Fault, NoFault, Reading, Storing, Course, Fate, Done, Struck, Failed, fate, numbers, ended, happens, happens_at, opens, starts, stops, arms, shown, at_server, event_at, ask_at, founded, done, step, waiting_at, unanswered}
 use Rattle.rq_script.specs.Runs.{Runs}
 use Rattle.rq_script.specs.History.{Op, Write, Read, Note, Asked, Answered, at_place, said_by, said, applying, node_at, asking, applying_at, notes, notes_of, history}
@@ -202,15 +202,15 @@ arm_opens calls pick s (Down kept rest) = tt
 line_opens : (c : Cluster) (line : Line) (items : List Item) (course : Course) → MayOpen c.server (notes c line items course) (done items course c line)
 line_opens c Skip items course = refl
 line_opens c (ClusterLine id) items course = found_opens c course id
-line_opens c (Elect id) items course = server_opens c id (λ s. Some (happens_at course s elect [])) (λ _. []) (elect_opens course)
-line_opens c (Apply id) items course =
+line_opens c (At id Elect) items course = server_opens c id (λ s. Some (happens_at course s elect [])) (λ _. []) (elect_opens course)
+line_opens c (At id Apply) items course =
     server_opens c id (λ s. Some (happens_at course s apply [])) (λ o. applying_at (option_and_then (λ (s : Server). node_at s.stand) o)) (apply_opens course)
-line_opens c (Execute id body) items course = asked_opens c course id body (λ number read n. execute n number read) items (Write items) (λ n. execute_turn n (c.asks + 1) items)
-line_opens c (Query id body) items course = asked_opens c course id body (λ number read n. query n number read) items (Read items) (λ n. says_now (Results (answers n.database items)) refl)
-line_opens c (Stop id) items course = server_opens c id stops (λ _. []) stop_opens
-line_opens c (StopWithin id calls pick) items course = server_opens c id (arms calls pick) (λ _. []) (arm_opens calls pick)
-line_opens c (Start id) items course = server_opens c id (starts course) (λ _. []) (start_opens course)
-line_opens c (Show id) items course = server_opens c id (λ s. Some (s, shown s.id s.stand)) (λ _. []) (λ s stand. refl)
+line_opens c (At id (Execute body)) items course = asked_opens c course id body (λ number read n. execute n number read) items (Write items) (λ n. execute_turn n (c.asks + 1) items)
+line_opens c (At id (Query body)) items course = asked_opens c course id body (λ number read n. query n number read) items (Read items) (λ n. says_now (Results (answers n.database items)) refl)
+line_opens c (At id Stop) items course = server_opens c id stops (λ _. []) stop_opens
+line_opens c (At id (StopWithin calls pick)) items course = server_opens c id (arms calls pick) (λ _. []) (arm_opens calls pick)
+line_opens c (At id Start) items course = server_opens c id (starts course) (λ _. []) (start_opens course)
+line_opens c (At id Show) items course = server_opens c id (λ s. Some (s, shown s.id s.stand)) (λ _. []) (λ s stand. refl)
 
 step_opens : (c : Cluster) (bytes : List ℕ) (items : List Item) (course : Course) → MayOpen c.server (notes_of c (line_of bytes) items course) (step items course c bytes)
 unfolding step

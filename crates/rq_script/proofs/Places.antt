@@ -19,7 +19,7 @@ use Rattle.rq_node.specs.Sound.{most_bytes}
 use Rattle.rq_node.specs.Node.{Node, Persistent, StoredRecord, Turn, persistent_after, unchanged, says}
 use Rattle.rq_node.specs.Rules.{is_leader, entry_in, risen, led, elect, waits, taken_up, execute_sized, execute, query, applied_content, applied_entry, apply_next, apply_times, apply}
 use Rattle.rq_node.specs.Files.{first_persistent}
-use Rattle.rq_script.specs.ScriptLine.{Line, Skip, Cluster as ClusterLine, Elect, Apply, Execute, Query, Stop, StopWithin, Start, Show, line_of}
+use Rattle.rq_script.specs.ScriptLine.{Line, Skip, Cluster as ClusterLine, At, Elect, Apply, Execute, Query, Stop, StopWithin, Start, Show, line_of}
 use Rattle.rq_script.specs.Cluster.{Stand, Running, Down, Server, Cluster, Written, new_server, Fault, NoFault, Reading, Storing, Course, Fate, Done, Struck, Failed, fate, ended, happens, happens_at, opens, starts, stops, arms, shown, at_server, event_at, ask_at, founded, done, step}
 use Rattle.rq_script.specs.History.{Op, Write, Read, Note, Asked, Answered, History, at_place, said_by, said, applying, node_at, asking, applying_at, notes, notes_of}
 use Rattle.rq_script.specs.Promise.{op_of}
@@ -401,19 +401,19 @@ module _ (h : History) (low : ℕ) (within : low ≤ length h.chosen) where
   line_climbs : (c : Cluster) (line : Line) (items : List Item) (course : Course) → Sound h c → AboveAt low c.server → MayClimb (notes c line items course) (done items course c line)
   line_climbs c Skip items course sound above = unmoved c.server above
   line_climbs c (ClusterLine id) items course sound above = found_climbs c course id sound.fits
-  line_climbs c (Elect id) items course sound above =
+  line_climbs c (At id Elect) items course sound above =
       server_climbs c id (λ s. Some (happens_at course s elect [])) (λ _. []) sound.fits above (λ s stand _ over. elect_climbs course s stand over)
-  line_climbs c (Apply id) items course sound above =
+  line_climbs c (At id Apply) items course sound above =
       server_climbs c id (λ s. Some (happens_at course s apply [])) (λ o. applying_at (option_and_then (λ (s : Server). node_at s.stand) o)) sound.fits above (apply_climbs course)
-  line_climbs c (Execute id body) items course sound above =
+  line_climbs c (At id (Execute body)) items course sound above =
       asked_climbs c course id body (λ number read n. execute n number read) items (Write items) sound.fits above (λ s n rises. execute_climbs course s n (c.asks + 1) items rises)
-  line_climbs c (Query id body) items course sound above =
+  line_climbs c (At id (Query body)) items course sound above =
       asked_climbs c course id body (λ number read n. query n number read) items (Read items) sound.fits above
       (λ s n rises. query_climbs course s n (c.asks + 1) items (sound.fresh (c.asks + 1) (omega arith)) rises)
-  line_climbs c (Stop id) items course sound above = server_climbs c id stops (λ _. []) sound.fits above stop_climbs
-  line_climbs c (StopWithin id calls pick) items course sound above = server_climbs c id (arms calls pick) (λ _. []) sound.fits above (arm_climbs calls pick)
-  line_climbs c (Start id) items course sound above = server_climbs c id (starts course) (λ _. []) sound.fits above (start_climbs course)
-  line_climbs c (Show id) items course sound above =
+  line_climbs c (At id Stop) items course sound above = server_climbs c id stops (λ _. []) sound.fits above stop_climbs
+  line_climbs c (At id (StopWithin calls pick)) items course sound above = server_climbs c id (arms calls pick) (λ _. []) sound.fits above (arm_climbs calls pick)
+  line_climbs c (At id Start) items course sound above = server_climbs c id (starts course) (λ _. []) sound.fits above (start_climbs course)
+  line_climbs c (At id Show) items course sound above =
       server_climbs c id (λ s. Some (s, shown s.id s.stand)) (λ _. []) sound.fits above (λ s stand _ over. unmoved (Some (record s { stand = stand })) over)
 
   pub step_climbs : (c : Cluster) (bytes : List ℕ) (items : List Item) (course : Course) → Sound h c → AboveAt low c.server

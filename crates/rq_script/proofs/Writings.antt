@@ -11,7 +11,7 @@ use Rattle.rq_json.specs.Body.{texts_of}
 use Rattle.rq_node.specs.Node.{Node, Persistent, StoredRecord, Turn, persistent_after, unchanged}
 use Rattle.rq_node.specs.Rules.{is_leader, led, elect, applied_entry, apply_next, apply_times, execute, query, apply, started}
 use Rattle.rq_node.specs.Files.{first_persistent}
-use Rattle.rq_script.specs.ScriptLine.{Line, Skip, Cluster as ClusterLine, Elect, Apply, Execute, Query, Stop, StopWithin, Start, Show, line_of}
+use Rattle.rq_script.specs.ScriptLine.{Line, Skip, Cluster as ClusterLine, At, Elect, Apply, Execute, Query, Stop, StopWithin, Start, Show, line_of}
 use Rattle.rq_script.specs.ScriptText.{answers_text}
 use Rattle.rq_script.specs.Cluster.{Stand, Running, Down, Server, Cluster, Written, new_server, Fault, NoFault, Reading, Storing, Course, Fate, Done, Struck, Failed, fate, ended, happens, happens_at, opens, starts, stops, arms, shown, at_server, event_at, ask_at, founded, done, step, Steps}
 use Rattle.rq_script.specs.History.{Op, Write, Read, Note, Asked, Answered, at_place, said_by, said, applying, node_at, node_in, asking, applying_at, notes, notes_of}
@@ -169,15 +169,15 @@ show_tells s (Down kept rest) = tells_state _ (is_shown_down s.id)
 line_tells : (c : Cluster) (line : Line) (items : List Item) (course : Course) → MayTell (notes c line items course) (done items course c line)
 line_tells c Skip items course = tells_nothing
 line_tells c (ClusterLine id) items course = found_tells c course id
-line_tells c (Elect id) items course = server_tells c id (λ s. Some (happens_at course s elect [])) (λ _. []) (elect_tells course)
-line_tells c (Apply id) items course =
+line_tells c (At id Elect) items course = server_tells c id (λ s. Some (happens_at course s elect [])) (λ _. []) (elect_tells course)
+line_tells c (At id Apply) items course =
     server_tells c id (λ s. Some (happens_at course s apply [])) (λ o. applying_at (option_and_then (λ (s : Server). node_at s.stand) o)) (apply_tells course)
-line_tells c (Execute id body) items course = asked_tells c course id body (λ number read n. execute n number read) items (Write items)
-line_tells c (Query id body) items course = asked_tells c course id body (λ number read n. query n number read) items (Read items)
-line_tells c (Stop id) items course = server_tells c id stops (λ _. []) stop_tells
-line_tells c (StopWithin id calls pick) items course = server_tells c id (arms calls pick) (λ _. []) (arm_tells calls pick)
-line_tells c (Start id) items course = server_tells c id (starts course) (λ _. []) (start_tells course)
-line_tells c (Show id) items course = server_tells c id (λ s. Some (s, shown s.id s.stand)) (λ _. []) show_tells
+line_tells c (At id (Execute body)) items course = asked_tells c course id body (λ number read n. execute n number read) items (Write items)
+line_tells c (At id (Query body)) items course = asked_tells c course id body (λ number read n. query n number read) items (Read items)
+line_tells c (At id Stop) items course = server_tells c id stops (λ _. []) stop_tells
+line_tells c (At id (StopWithin calls pick)) items course = server_tells c id (arms calls pick) (λ _. []) (arm_tells calls pick)
+line_tells c (At id Start) items course = server_tells c id (starts course) (λ _. []) (start_tells course)
+line_tells c (At id Show) items course = server_tells c id (λ s. Some (s, shown s.id s.stand)) (λ _. []) show_tells
 
 step_tells : (c : Cluster) (bytes : List ℕ) (items : List Item) (course : Course) → MayTell (notes_of c (line_of bytes) items course) (step items course c bytes)
 unfolding step
@@ -250,14 +250,14 @@ nothing_sees c k number results place items is op = absurd (cc)
 line_sees : (c : Cluster) (line : Line) (items : List Item) (course : Course) → ReadsSeeApplied c (notes c line items course)
 line_sees c Skip items course = nothing_sees c
 line_sees c (ClusterLine id) items course = nothing_sees c
-line_sees c (Elect id) items course = nothing_sees c
-line_sees c (Apply id) items course = apply_sees c (node_in c)
-line_sees c (Execute id body) items course = write_sees c course c.server (c.asks + 1) items (λ n. execute n (c.asks + 1) items)
-line_sees c (Query id body) items course = query_sees c course c.server (c.asks + 1) items
-line_sees c (Stop id) items course = nothing_sees c
-line_sees c (StopWithin id calls pick) items course = nothing_sees c
-line_sees c (Start id) items course = nothing_sees c
-line_sees c (Show id) items course = nothing_sees c
+line_sees c (At id Elect) items course = nothing_sees c
+line_sees c (At id Apply) items course = apply_sees c (node_in c)
+line_sees c (At id (Execute body)) items course = write_sees c course c.server (c.asks + 1) items (λ n. execute n (c.asks + 1) items)
+line_sees c (At id (Query body)) items course = query_sees c course c.server (c.asks + 1) items
+line_sees c (At id Stop) items course = nothing_sees c
+line_sees c (At id (StopWithin calls pick)) items course = nothing_sees c
+line_sees c (At id Start) items course = nothing_sees c
+line_sees c (At id Show) items course = nothing_sees c
 
 pub seen : (c : Cluster) (bytes text : List ℕ) (next : Cluster) (steps : Steps c bytes text next) → ReadsSeeApplied c (notes_of c (line_of bytes) steps.0.items steps.0.course)
 seen c bytes text next (way, is) = at (line_of bytes)

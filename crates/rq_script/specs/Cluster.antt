@@ -8,7 +8,7 @@ use Rattle.rq_node.specs.Node.{Node, Persistent, StoredRecord, Turn, persistent_
 use Rattle.rq_node.specs.Rules.{elect, execute, query, apply, started}
 use Rattle.rq_node.specs.Files.{first_persistent}
 use Rattle.rq_script.specs.Preparing.{statements_in, AreRead}
-use Rattle.rq_script.specs.ScriptLine.{Line, Skip, Cluster as ClusterLine, Elect, Apply, Execute, Query, Stop, StopWithin, Start, Show, line_of}
+use Rattle.rq_script.specs.ScriptLine.{Line, Skip, Cluster as ClusterLine, At, Elect, Apply, Execute, Query, Stop, StopWithin, Start, Show, line_of}
 use Rattle.rq_script.specs.ScriptText.{up_text, down_text, answers_text, pending_text, show_text, show_down_text}
 
 -- a server's node runs, or it is down and keeps what stands in its files
@@ -190,14 +190,14 @@ founded course c id = where_none c.server
 abbrev pub done : List Item → Course → Cluster → Line → Option Written
 done items course c Skip = Some (c, [])
 done items course c (ClusterLine id) = founded course c id
-done items course c (Elect id) = event_at course c id elect []
-done items course c (Apply id) = event_at course c id apply []
-done items course c (Execute id body) = ask_at course c id (λ number read n. execute n number read) items body
-done items course c (Query id body) = ask_at course c id (λ number read n. query n number read) items body
-done items course c (Stop id) = at_server c id stops
-done items course c (StopWithin id calls pick) = at_server c id (arms calls pick)
-done items course c (Start id) = at_server c id (starts course)
-done items course c (Show id) = at_server c id (λ s. Some (s, shown s.id s.stand))
+done items course c (At id Elect) = event_at course c id elect []
+done items course c (At id Apply) = event_at course c id apply []
+done items course c (At id (Execute body)) = ask_at course c id (λ number read n. execute n number read) items body
+done items course c (At id (Query body)) = ask_at course c id (λ number read n. query n number read) items body
+done items course c (At id Stop) = at_server c id stops
+done items course c (At id (StopWithin calls pick)) = at_server c id (arms calls pick)
+done items course c (At id Start) = at_server c id (starts course)
+done items course c (At id Show) = at_server c id (λ s. Some (s, shown s.id s.stand))
 
 -- the cluster after a line of these bytes, and what the line writes, if it can stand here
 unfoldable pub step : List Item → Course → Cluster → List ℕ → Option Written

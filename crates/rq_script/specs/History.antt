@@ -6,7 +6,7 @@ use Rattle.rq_request.specs.declared.say.Answer.{Answer}
 use Rattle.rq_node.specs.declared.log_entry.LogEntry.{LogEntry}
 use Rattle.rq_node.specs.Node.{Node, Turn}
 use Rattle.rq_node.specs.Rules.{execute, query, applied_entry}
-use Rattle.rq_script.specs.ScriptLine.{Line, Skip, Cluster as ClusterLine, Elect, Apply, Execute, Query, Stop, StopWithin, Start, Show, line_of}
+use Rattle.rq_script.specs.ScriptLine.{Line, Skip, Cluster as ClusterLine, At, Elect, Apply, Execute, Query, Stop, StopWithin, Start, Show, line_of}
 use Rattle.rq_script.specs.Cluster.{Stand, Running, Down, Armed, Server, Cluster, Course, Fate, Done, Struck, Failed, fate, Way}
 use Rattle.rq_script.specs.Runs.{Runs}
 
@@ -65,14 +65,14 @@ applying_at (Some n) = applying (n.commit - n.applied) n
 abbrev pub notes : Cluster → Line → List Item → Course → List Note
 notes c Skip items course = []
 notes c (ClusterLine id) items course = []
-notes c (Elect id) items course = []
-notes c (Apply id) items course = applying_at (node_in c)
-notes c (Execute id body) items course = asking course c.server (c.asks + 1) (Write items) (λ n. execute n (c.asks + 1) items)
-notes c (Query id body) items course = asking course c.server (c.asks + 1) (Read items) (λ n. query n (c.asks + 1) items)
-notes c (Stop id) items course = []
-notes c (StopWithin id calls pick) items course = []
-notes c (Start id) items course = []
-notes c (Show id) items course = []
+notes c (At id Elect) items course = []
+notes c (At id Apply) items course = applying_at (node_in c)
+notes c (At id (Execute body)) items course = asking course c.server (c.asks + 1) (Write items) (λ n. execute n (c.asks + 1) items)
+notes c (At id (Query body)) items course = asking course c.server (c.asks + 1) (Read items) (λ n. query n (c.asks + 1) items)
+notes c (At id Stop) items course = []
+notes c (At id (StopWithin calls pick)) items course = []
+notes c (At id Start) items course = []
+notes c (At id Show) items course = []
 
 abbrev pub notes_of : Cluster → Option Line → List Item → Course → List Note
 notes_of c None items course = []

@@ -3,7 +3,7 @@ use Rattle.std.specs.Prelude.{ℕ, List, [], ◌∷◌, Option, Some, None, ⊤}
 use Rattle.rq_statement.specs.declared.item.Item.{Item}
 use Rattle.rq_json.specs.Body.{texts_of}
 use Rattle.rq_settle.specs.Prepared.{IsPrepared}
-use Rattle.rq_script.specs.ScriptLine.{Line, Skip, Cluster, Elect, Apply, Execute, Query, Stop, StopWithin, Start, Show}
+use Rattle.rq_script.specs.ScriptLine.{Line, Skip, Cluster, At, Elect, Apply, Execute, Query, Stop, StopWithin, Start, Show}
 
 -- the texts of the statements that a body lists, none where it isn't a list
 abbrev pub listed : Option (List (List ℕ)) → List (List ℕ)
@@ -12,16 +12,16 @@ listed (Some texts) = texts
 
 -- the statements of a line
 abbrev pub statements : Line → List (List ℕ)
-statements (Execute id body) = listed (texts_of body)
-statements (Query id body) = listed (texts_of body)
+statements (At id (Execute body)) = listed (texts_of body)
+statements (At id (Query body)) = listed (texts_of body)
 statements Skip = []
 statements (Cluster id) = []
-statements (Elect id) = []
-statements (Apply id) = []
-statements (Stop id) = []
-statements (StopWithin id calls pick) = []
-statements (Start id) = []
-statements (Show id) = []
+statements (At id Elect) = []
+statements (At id Apply) = []
+statements (At id Stop) = []
+statements (At id (StopWithin calls pick)) = []
+statements (At id Start) = []
+statements (At id Show) = []
 
 abbrev pub statements_in : Option Line → List (List ℕ)
 statements_in None = []

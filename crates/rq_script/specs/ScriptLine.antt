@@ -3,17 +3,21 @@ use Rattle.std.specs.Prelude.{if◌then◌else◌, ◌+◌, ◌-◌, ◌*◌, �
 use Rattle.std.specs.List.{list_all}
 use Rattle.rq_values.specs.Text.{is_id}
 
+-- what is done at one server
+pub data Action : Type 0 where
+  Elect : Action
+  Apply : Action
+  Execute : (body : List ℕ) → Action
+  Query : (body : List ℕ) → Action
+  Stop : Action  -- at once
+  StopWithin : (calls pick : ℕ) → Action  -- in the event that needs more than so many changing calls
+  Start : Action
+  Show : Action
+
 pub data Line : Type 0 where
   Skip : Line  -- an empty line, or a comment
   Cluster : (id : List ℕ) → Line
-  Elect : (id : List ℕ) → Line
-  Apply : (id : List ℕ) → Line
-  Execute : (id body : List ℕ) → Line
-  Query : (id body : List ℕ) → Line
-  Stop : (id : List ℕ) → Line  -- at once
-  StopWithin : (id : List ℕ) (calls pick : ℕ) → Line  -- in the event that needs more than so many changing calls
-  Start : (id : List ℕ) → Line
-  Show : (id : List ℕ) → Line
+  At : (id : List ℕ) (action : Action) → Line  -- at the server of this id
 
 -- what stands behind this prefix, if the bytes begin with it
 abbrev pub behind : List ℕ → List ℕ → Option (List ℕ)
@@ -28,11 +32,15 @@ or_other None line other = other
 abbrev pub of_id : (List ℕ → Line) → List ℕ → Option Line
 of_id line id = if is_id id then Some (line id) else None
 
+-- and where an action is done at the server of that id
+abbrev pub of_action : Action → List ℕ → Option Line
+of_action action = of_id (λ id. At id action)
+
 -- method and target with their body
 abbrev pub request_of : List ℕ → List ℕ → Option Line
 request_of id rest =
-    or_other (behind (codes " POST /db/execute ") rest) (λ body. Some (Execute id body))
-    (or_other (behind (codes " POST /db/query?level=none ") rest) (λ body. Some (Query id body)) None)
+    or_other (behind (codes " POST /db/execute ") rest) (λ body. Some (At id (Execute body)))
+    (or_other (behind (codes " POST /db/query?level=none ") rest) (λ body. Some (At id (Query body))) None)
 
 -- an ask: its id goes up to the first blank
 abbrev pub ask_of : List ℕ → Option Line
@@ -72,20 +80,20 @@ cut_at_blank {A} bytes whole parts = by (position (λ byte. byte == 32) bytes)
 -- K and P of `stop ID K P`
 abbrev pub stop_within_of : List ℕ → List ℕ → Option Line
 stop_within_of id rest =
-    cut_at_blank rest None (λ digits pick. option_and_then (λ calls. option_and_then (λ p. Some (StopWithin id calls p)) (pick_of pick)) (calls_of digits))
+    cut_at_blank rest None (λ digits pick. option_and_then (λ calls. option_and_then (λ p. Some (At id (StopWithin calls p))) (pick_of pick)) (calls_of digits))
 
 abbrev pub stop_of : List ℕ → Option Line
-stop_of rest = cut_at_blank rest (of_id Stop rest) (λ id more. if is_id id then stop_within_of id more else None)
+stop_of rest = cut_at_blank rest (of_action Stop rest) (λ id more. if is_id id then stop_within_of id more else None)
 
 abbrev pub command_of : List ℕ → Option Line
 command_of bytes =
     or_other (behind (codes "cluster ") bytes) (of_id Cluster)
-    (or_other (behind (codes "elect ") bytes) (of_id Elect)
-    (or_other (behind (codes "apply ") bytes) (of_id Apply)
+    (or_other (behind (codes "elect ") bytes) (of_action Elect)
+    (or_other (behind (codes "apply ") bytes) (of_action Apply)
     (or_other (behind (codes "ask ") bytes) ask_of
     (or_other (behind (codes "stop ") bytes) stop_of
-    (or_other (behind (codes "start ") bytes) (of_id Start)
-    (or_other (behind (codes "show ") bytes) (of_id Show) None))))))
+    (or_other (behind (codes "start ") bytes) (of_action Start)
+    (or_other (behind (codes "show ") bytes) (of_action Show) None))))))
 
 -- the line that the bytes spell, if they spell one
 abbrev pub line_of : List ℕ → Option Line

@@ -12,4 +12,4 @@ pub use saying::{
     write_all_pending, write_answer, write_answers, write_down, write_show, write_show_down,
     write_up,
 };
-pub use script::{ScriptLine, script_line};
+pub use script::{Action, ScriptLine, script_line};

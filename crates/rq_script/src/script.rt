@@ -2,7 +2,7 @@
 ghost use Rattle.std.specs.Prelude.{◌≡◌, ◌==◌, ◌<◌, ◌^◌, ◌-◌, min, length, position, IfSome};
 ghost use Rattle.std.specs.List.{list_all};
 ghost use Rattle.rq_script.specs.ScriptLine as spec;
-ghost use Rattle.rq_script.specs.ReadLine.{IsRead, HasPick};
+ghost use Rattle.rq_script.specs.ReadLine.{IsRead, HasPick, HasPickAt, action_read};
 
 use rq_values::Id;
 
@@ -13,23 +13,30 @@ pub enum ScriptLine<'a> {
     Skip,
     /// The nodes of the cluster: one.
     Cluster { id: Id },
+    /// Something is done at the node of this id.
+    At { id: Id, action: Action<'a> },
+}
+
+/// What is done at one node.
+#[derive(Clone, Copy, Debug)]
+pub enum Action<'a> {
     /// The node stands for election.
-    Elect { id: Id },
+    Elect,
     /// The node applies what is committed.
-    Apply { id: Id },
+    Apply,
     /// A list of statements to be executed, as a JSON list of strings.
-    Execute { id: Id, body: &'a [u8] },
+    Execute { body: &'a [u8] },
     /// A list of queries that the node answers from its own database.
-    Query { id: Id, body: &'a [u8] },
+    Query { body: &'a [u8] },
     /// The node stops at once.
-    Stop { id: Id },
+    Stop,
     /// The node stops in the event that needs more than so many changing calls of its disks, which leave the image of this
     /// pick, 0 to 3.
-    StopWithin { id: Id, calls: u64, pick: u8 },
+    StopWithin { calls: u64, pick: u8 },
     /// The node, which is down, starts.
-    Start { id: Id },
+    Start,
     /// The node is printed.
-    Show { id: Id },
+    Show,
 }
 
 /// The line that the bytes spell, or None exactly where they spell none.
@@ -44,10 +51,10 @@ pub fn script_line(line: &[u8]) -> Option<ScriptLine<'_>>
         return Some(ScriptLine::Cluster { id: Id::new(rest)? });
     }
     if let Some(rest) = line.strip_prefix(b"elect ") {
-        return Some(ScriptLine::Elect { id: Id::new(rest)? });
+        return action_line(Action::Elect, rest);
     }
     if let Some(rest) = line.strip_prefix(b"apply ") {
-        return Some(ScriptLine::Apply { id: Id::new(rest)? });
+        return action_line(Action::Apply, rest);
     }
     if let Some(rest) = line.strip_prefix(b"ask ") {
         return ask_line(rest);
@@ -56,10 +63,20 @@ pub fn script_line(line: &[u8]) -> Option<ScriptLine<'_>>
         return stop_line(rest);
     }
     if let Some(rest) = line.strip_prefix(b"start ") {
-        return Some(ScriptLine::Start { id: Id::new(rest)? });
+        return action_line(Action::Start, rest);
     }
     let rest = line.strip_prefix(b"show ")?;
-    Some(ScriptLine::Show { id: Id::new(rest)? })
+    action_line(Action::Show, rest)
+}
+
+/// An action at the node whose id is all that is left.
+fn action_line<'a>(action: Action<'a>, rest: &[u8]) -> Option<ScriptLine<'a>>
+    requires pick { HasPickAt action }
+    ensures read { IsRead (spec.of_action (action_read action) rest.now) result }
+    ensures picks { IfSome result (λ line. HasPick line) }
+{
+    let id = Id::new(rest)?;
+    Some(ScriptLine::At { id, action })
 }
 
 /// What stands behind the word `stop` and its blank.
@@ -68,7 +85,7 @@ fn stop_line(rest: &[u8]) -> Option<ScriptLine<'_>>
     ensures picks { IfSome result (λ line. HasPick line) }
 {
     let Some(end) = first_blank(rest) else {
-        return Some(ScriptLine::Stop { id: Id::new(rest)? });
+        return action_line(Action::Stop, rest);
     };
     let id = Id::new(&rest[..end])?;
     stop_within_line(id, &rest[end + 1..])
@@ -82,7 +99,8 @@ fn stop_within_line(id: Id, rest: &[u8]) -> Option<ScriptLine<'_>>
     let end = first_blank(rest)?;
     let calls = calls_of(&rest[..end])?;
     let pick = pick_of(&rest[end + 1..])?;
-    Some(ScriptLine::StopWithin { id, calls, pick })
+    let action = Action::StopWithin { calls, pick };
+    Some(ScriptLine::At { id, action })
 }
 
 /// A number of calls: decimal digits without a leading zero. One of 2^64 - 1 or more is taken as 2^64 - 1.
@@ -165,8 +183,10 @@ fn request_line(id: Id, request: &[u8]) -> Option<ScriptLine<'_>>
     ensures picks { IfSome result (λ line. HasPick line) }
 {
     if let Some(body) = request.strip_prefix(b" POST /db/execute ") {
-        return Some(ScriptLine::Execute { id, body });
+        let action = Action::Execute { body };
+        return Some(ScriptLine::At { id, action });
     }
     let body = request.strip_prefix(b" POST /db/query?level=none ")?;
-    Some(ScriptLine::Query { id, body })
+    let action = Action::Query { body };
+    Some(ScriptLine::At { id, action })
 }

@@ -1,6 +1,7 @@
 //! Applying what is committed: docs/RAFT.md, "Apply".
 ghost use Rattle.std.specs.Prelude.{◌≡◌, ◌<◌, ◌+◌, ◌++◌, slice_get, IfOk, OnOk};
 ghost use Rattle.rq_engine.specs.Meaning.{executed};
+ghost use Rattle.rq_node.specs.Events.{IsKept};
 ghost use Rattle.rq_node.specs.Rules.{apply, applied_entry, answered, left_waiting};
 
 use super::State;
@@ -15,10 +16,11 @@ use std::collections::VecDeque;
 
 impl State {
     /// Applies every committed entry, in order, and answers the asks that waited for them. With no memory the node is
-    /// good for nothing more.
-    pub fn apply(&mut self, alloc: Global) -> Result<Seq<Answer>, NoMemory>
+    /// good for nothing more, but keeps what it kept.
+    pub(super) fn apply(&mut self, alloc: Global) -> Result<Seq<Answer>, NoMemory>
         ensures node { OnOk result (self.new ≡ (apply self.old).node) }
         ensures answers { IfOk result (λ answers. answers ≡ (apply self.old).answers) }
+        ensures kept { IsKept self.old self.new }
     {
         let mut answers = Seq::new(alloc);
         while self.applied < self.commit {
@@ -32,6 +34,7 @@ impl State {
         requires { self.old.applied < self.old.commit }
         ensures node { OnOk result (self.new ≡ (applied_entry self.old (slice_get self.old.log self.old.applied)).node) }
         ensures answers { OnOk result (answers.new ≡ answers.old ++ (applied_entry self.old (slice_get self.old.log self.old.applied)).answers) }
+        ensures kept { IsKept self.old self.new }
     {
         let index = self.applied + 1;
         match &self.log[self.applied as usize].content {

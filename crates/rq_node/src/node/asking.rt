@@ -9,11 +9,13 @@ ghost use Rattle.rq_wal.specs.Calls.{PassesMost};
 ghost use Rattle.rq_wal.specs.Later.{Later};
 ghost use Rattle.rq_node.specs.declared.turn_error.TurnError.TheVariants.{Disk as DiskFailed, NoMemory as OutOfMemory};
 ghost use Rattle.rq_node.specs.Node.{persistent_of, says};
-ghost use Rattle.rq_node.specs.Rules.{execute, execute_sized, taken_up};
+ghost use Rattle.rq_node.specs.Events.{Brings};
+ghost use Rattle.rq_node.specs.Rules.{execute, execute_sized, query, taken_up};
 ghost use Rattle.rq_node.specs.Sound.{IsReadable, most_bytes};
 ghost use Rattle.rq_node.specs.Recovery.{IsOpen, IsBroken, Moments};
 
 use super::{Node, State, splice_of, store};
+use crate::event::Effects;
 use crate::log_entry::{Content, LogEntry};
 use crate::role::Role;
 use crate::turn_error::TurnError;
@@ -31,10 +33,16 @@ pub(crate) const MOST_BYTES: usize = 8_388_608;
 
 impl State {
     /// Answers queries from the node's own database.
-    pub fn query(&self, alloc: Global, items: &[Item]) -> Result<Say, NoMemory>
-        ensures { IfOk result (λ say. say ≡ Results (answers self.now.database items.now)) }
+    pub(super) fn query(
+        &self,
+        alloc: Global,
+        number: u64,
+        items: &[Item],
+    ) -> Result<Effects, NoMemory>
+        ensures effects { IfOk result (Brings (query self.now number items.now)) }
     {
-        Ok(Say::Results(self.tables.query(alloc, items)?))
+        let results = self.tables.query(alloc, items)?;
+        Effects::says(alloc, number, Say::Results(results))
     }
 }
 
@@ -57,16 +65,16 @@ fn are_bytes(bytes: &[u8])
 impl Node {
     /// Appends a list of statements at a leader, to be answered when it is applied; else says why not.
     #[tactic(auto, using(crate::proofs::FileSteps::none_made))]
-    pub fn execute<D: Disk>(
+    pub(super) fn execute<D: Disk>(
         &mut self,
         alloc: Global,
         disks: &mut DiskPair<D>,
         number: u64,
         items: Seq<Item>,
-    ) -> Result<Option<Say>, TurnError>
+    ) -> Result<Effects, TurnError>
         requires open { IsOpen D.told D.means disks.old self.old }
         requires readable { All IsReadable items }
-        ensures said { IfOk result (λ said. MatchOption said (execute self.old.state number items ≡ taken_up self.old.state number items) (λ say. execute self.old.state number items ≡ says self.old.state number say)) }
+        ensures effects { IfOk result (Brings (execute self.old.state number items)) }
         ensures ok { OnOk result (self.new.state ≡ (execute self.old.state number items).node) }
         ensures open { OnOk result (IsOpen D.told D.means disks.new self.new) }
         ensures calls { OnOk result (UsedCalls (4 * length (execute self.old.state number items).records) (arm_of disks.old) (arm_of disks.new)) }
@@ -80,15 +88,16 @@ impl Node {
     {
         let term = self.state.term;
         if self.state.role != Role::Leader {
-            return Ok(Some(Say::Refused(NodeRefusal::NoLeader { term })));
+            let refusal = NodeRefusal::NoLeader { term };
+            return Ok(Effects::says(alloc, number, Say::Refused(refusal))?);
         }
         let command = command_of(alloc, &items)?;
         if command.len() > MOST_BYTES {
             let refusal = NodeRefusal::EntryTooLarge(command.len() as u64);
-            return Ok(Some(Say::Refused(refusal)));
+            return Ok(Effects::says(alloc, number, Say::Refused(refusal))?);
         }
         self.append(alloc, disks, number, items, Bytes::from_vec(command))?;
-        Ok(None)
+        Ok(Effects::stores(alloc, 1))
     }
 
     /// Appends an entry with this list, spelled as these bytes. A leader that is the one voter commits it at once.

@@ -7,10 +7,12 @@ ghost use Rattle.rq_wal.specs.Calls.{PassesMost};
 ghost use Rattle.rq_wal.specs.Later.{Later};
 ghost use Rattle.rq_node.specs.declared.turn_error.TurnError.TheVariants.{Disk as DiskFailed, NoMemory as OutOfMemory};
 ghost use Rattle.rq_node.specs.Node.{persistent_of};
+ghost use Rattle.rq_node.specs.Events.{Brings};
 ghost use Rattle.rq_node.specs.Rules.{elect, led};
 ghost use Rattle.rq_node.specs.Recovery.{IsOpen, IsBroken, Moments};
 
 use super::{Node, splice_of, store};
+use crate::event::Effects;
 use crate::log_entry::{Content, LogEntry};
 use crate::role::Role;
 use crate::turn_error::TurnError;
@@ -21,20 +23,18 @@ use rq_wire::Body;
 use std::alloc::Global;
 
 impl Node {
-    /// Stands for the next term, and answers how many things were made durable. The one voter's own vote is a quorum, so it
-    /// leads at once.
+    /// Stands for the next term. The one voter's own vote is a quorum, so it leads at once.
     #[tactic(auto, using(crate::proofs::FileSteps::none_made))]
-    pub fn elect<D: Disk>(
+    pub(super) fn elect<D: Disk>(
         &mut self,
         alloc: Global,
         disks: &mut DiskPair<D>,
-    ) -> Result<u64, TurnError>
+    ) -> Result<Effects, TurnError>
         requires open { IsOpen D.told D.means disks.old self.old }
         ensures ok { OnOk result (self.new.state ≡ (elect self.old.state).node) }
-        ensures count { IfOk result (λ count. count ≡ length (elect self.old.state).records) }
+        ensures effects { IfOk result (Brings (elect self.old.state)) }
         ensures open { OnOk result (IsOpen D.told D.means disks.new self.new) }
-        ensures calls { IfOk result (λ count. UsedCalls (4 * count) (arm_of disks.old) (arm_of disks.new)) }
-        ensures answers { (elect self.old.state).answers ≡ [] }
+        ensures calls { OnOk result (UsedCalls (4 * length (elect self.old.state).records) (arm_of disks.old) (arm_of disks.new)) }
         ensures failed { IsErrOf result DiskFailed → IsBroken D.told D.means disks.old disks.new self.old.state.id (persistent_of self.old.state) (elect self.old.state).records }
         ensures moments { Moments D.told D.means disks.old disks.new self.old.state.id (persistent_of self.old.state) (elect self.old.state).records }
         ensures most { PassesMost (4 * length (elect self.old.state).records) (arm_of disks.old) (arm_of disks.new) }
@@ -44,10 +44,10 @@ impl Node {
         ensures later { Later D.means disks.old disks.new }
     {
         if self.state.role == Role::Leader || self.state.term == u64::MAX {
-            return Ok(0);
+            return Ok(Effects::stores(alloc, 0));
         }
         self.lead(alloc, disks)?;
-        Ok(2)
+        Ok(Effects::stores(alloc, 2))
     }
 
     /// Goes to the next term, votes for itself, and leads.

@@ -1,8 +1,6 @@
 use Rattle.std.proofs.Common.{take}
-use Rattle.std.specs.Prelude.{All}
-use Rattle.rq_node.specs.Sound.{IsReadable}
 use Rattle.rq_script.specs.Preparing.{AreRead}
 use Rattle.rq_cluster.proofs.preparing.prepared_all.Given as goal
 
 abbrev pub invariant-loop-text : goal.invariant-loop-text
-invariant-loop-text l = AreRead (take l.text-index l.texts) l.items × All IsReadable l.items
+invariant-loop-text l = AreRead (take l.text-index l.texts) l.items
