@@ -171,6 +171,7 @@ impl Node {
         ensures later { Later D.means disks.old disks.new }
         ensures modest { IsModest self.old.state (rule event self.old.state) }
     {
+        know_event(&event);
         know_rule(&self.state, &event);
         match event {
             Event::Execute { number, items } => self.execute(alloc, disks, number, items),

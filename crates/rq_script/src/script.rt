@@ -72,7 +72,7 @@ pub fn script_line(line: &[u8]) -> Option<ScriptLine<'_>>
 /// An action at the node whose id is all that is left.
 fn action_line<'a>(action: Action<'a>, rest: &[u8]) -> Option<ScriptLine<'a>>
     requires pick { HasPickAt action }
-    ensures read { IsRead (spec.of_action (action_read action) rest.now) result }
+    ensures read { IsRead (spec.of_action (action_read action.entry) rest.now) result }
     ensures picks { IfSome result (λ line. HasPick line) }
 {
     let id = Id::new(rest)?;
