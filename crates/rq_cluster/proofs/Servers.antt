@@ -314,8 +314,8 @@ module _ {D F : Type 0} (told : Bool) (means : D → DiskMeaning) where
     -- ---- where it can't be done
 
     pub put_outside : (a : Action) → PutsNothing a → IsOutsideHere told means (At host.id a) old (with_host host asks)
-    put_outside (Execute body) none start c shown = ap (option_and_then (λ (t : List (List ℕ)). event_at whole (record c { asks = c.asks + 1 }) host.id (λ n. execute n (c.asks + 1) []) ((c.asks + 1) ∷ []))) none
-    put_outside (Query body) none start c shown = ap (option_and_then (λ (t : List (List ℕ)). event_at whole (record c { asks = c.asks + 1 }) host.id (λ n. query n (c.asks + 1) []) ((c.asks + 1) ∷ []))) none
+    put_outside (Execute body) none = λ start c shown. ap (option_and_then (λ (t : List (List ℕ)). event_at whole (record c { asks = c.asks + 1 }) host.id (λ n. execute n (c.asks + 1) []) ((c.asks + 1) ∷ []))) none
+    put_outside (Query body) none = λ start c shown. ap (option_and_then (λ (t : List (List ℕ)). event_at whole (record c { asks = c.asks + 1 }) host.id (λ n. query n (c.asks + 1) []) ((c.asks + 1) ∷ []))) none
     put_outside Elect nothing = absurd nothing
     put_outside Apply nothing = absurd nothing
     put_outside Stop nothing = absurd nothing

@@ -91,12 +91,7 @@ impl World {
                 _ => Reason::NoCluster,
             };
         };
-        match read {
-            ScriptLine::Skip => Reason::NoSuchLine,
-            ScriptLine::Cluster { id: _ } => Reason::SecondCluster,
-            ScriptLine::At { id, action: _ } if *host.id() != id => Reason::NoNode(id),
-            ScriptLine::At { id, action } => reason_at(&action, id, host.is_running(), line),
-        }
+        reason_here(&read, host, line)
     }
 
     /// Does a line at the pair of the one server.
@@ -269,6 +264,20 @@ fn put<D: CrashDisk>(
     };
     host.turn(alloc, disks, event, text)?;
     Ok(())
+}
+
+/// Why a line can't stand in a cluster of this server.
+fn reason_here(read: &ScriptLine<'_>, host: &Host, line: &[u8]) -> Reason {
+    match read {
+        ScriptLine::Skip => Reason::NoSuchLine,
+        ScriptLine::Cluster { id: _ } => Reason::SecondCluster,
+        ScriptLine::At { id, action } => {
+            if *host.id() != *id {
+                return Reason::NoNode(*id);
+            }
+            reason_at(action, *id, host.is_running(), line)
+        }
+    }
 }
 
 /// Why a line can't stand that names a node of the cluster.

@@ -12,13 +12,13 @@ use Rattle.rq_cluster.proofs.world.put.Goals as goal
 pub returns-clause-ok : goal.returns-clause-ok
 returns-clause-ok g c =
     let action = action_read c.args.action.now in
-    let puts = of_some c.in_ok-event.field-0 c.in-Some.event (PutsNothing action) (λ (e : Event). Puts action c.args.asks.now c.event_of.new.asks e) c.in-Some.is c.in_ok-event.ensures in
+    let puts = of_some c.in_ok-event.field-0 c.in-Some.event (PutsNothing action) (λ (e : Event). Puts action c.args.asks.now c.event_of.new.asks e) c.in-Some.is c.in_ok-event.ensures.event in
     put_ok g.D.Disk.told g.D.Disk.means c.args.disks.now c.args.host.now c.args.asks.now action c.event_of.new.asks c.in-Some.event puts c.turn.new.disks c.turn.new.self c.args.text.now.items c.turn.new.text.items c.in_ok-turn.ensures.ok
 
 pub returns-in_err-turn-clause-broken : goal.returns-in_err-turn-clause-broken
 returns-in_err-turn-clause-broken g c = λ _.
     let action = action_read c.args.action.now in
-    let puts = of_some c.in_ok-event.field-0 c.in-Some.event (PutsNothing action) (λ (e : Event). Puts action c.args.asks.now c.event_of.new.asks e) c.in-Some.is c.in_ok-event.ensures in
+    let puts = of_some c.in_ok-event.field-0 c.in-Some.event (PutsNothing action) (λ (e : Event). Puts action c.args.asks.now c.event_of.new.asks e) c.in-Some.is c.in_ok-event.ensures.event in
     put_breaks g.D.Disk.told g.D.Disk.means c.args.disks.now c.args.host.now c.args.asks.now action c.event_of.new.asks c.in-Some.event puts c.turn.new.disks c.in_err-turn.ensures.broken
 
 pub returns-in_err-event-clause-broken : goal.returns-in_err-event-clause-broken
@@ -30,4 +30,4 @@ pub returns-in_default-clause-outside : goal.returns-in_default-clause-outside
 returns-in_default-clause-outside g c = λ _.
     let action = action_read c.args.action.now in
     put_outside g.D.Disk.told g.D.Disk.means c.args.disks.now c.args.host.now c.args.asks.now action
-    (of_none c.in_ok-event.field-0 (PutsNothing action) (λ (e : Event). Puts action c.args.asks.now c.event_of.new.asks e) c.in_default.is c.in_ok-event.ensures)
+    (of_none c.in_ok-event.field-0 (PutsNothing action) (λ (e : Event). Puts action c.args.asks.now c.event_of.new.asks e) c.in_default.is c.in_ok-event.ensures.event)

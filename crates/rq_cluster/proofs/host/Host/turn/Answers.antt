@@ -23,10 +23,10 @@ returns-in_default-clause-ok g c =
     let from = c.args.self.now in
     let e = c.args.event in
     goes_of told means c.lose.result (turn e) old mid from (record from { node = c.take.new.self; lost = c.lose.new.lost }) c.args.text.now.items c.args.text.now.items
-    (λ start s shows. on_ok_map c.lose.result (c.lose.new.lost.items ≡ from.lost.items ++ asked_of c.asked.result) _
+    (λ start s shows. on_ok_map c.lose.result (c.lose.new.lost.items ≡ from.lost.items ++ asked_of c.asked-asked.result) _
     (λ lost. idle_goes told means start old from s shows mid _ (rule e) (asked_of (asked_in e)) c.args.text.now.items
     (c.let_pass.ensures.one, c.let_pass.ensures.two) (lets_of told means start old from s shows mid c.let_pass.ensures.passes)
-    (sym c.take.ensures.value ∙ c.in_default.is) refl (lost ∙ ap (λ (o : Option ℕ). from.lost.items ++ asked_of o) c.asked.ensures) refl refl c.take.ensures.after)
+    (sym c.take.ensures.value ∙ c.in_default.is) refl (lost ∙ ap (λ (o : Option ℕ). from.lost.items ++ asked_of o) c.asked-asked.ensures) refl refl c.take.ensures.after)
     c.lose.ensures)
 
 pub returns-in_default-clause-broken : goal.returns-in_default-clause-broken
@@ -119,7 +119,7 @@ returns-clause-ok g c =
       on_ok_map c.go_down.result _ _ (λ is. is ∙ c.take.ensures.after) c.go_down.ensures.node,
       c.go_down.ensures.armed,
       on_ok_map c.go_down.result _ (c.go_down.new.self.lost.items ≡ from.lost.items ++ (numbers n.waiting ++ asked_of (asked_in e)))
-          (λ is. is ∙ ap (λ (m : Node). from.lost.items ++ (numbers m.waiting ++ asked_of c.asked.result)) stopped ∙ ap (λ (o : Option ℕ). from.lost.items ++ (numbers n.waiting ++ asked_of o)) c.asked.ensures) c.go_down.ensures.lost,
+          (λ is. is ∙ ap (λ (m : Node). from.lost.items ++ (numbers m.waiting ++ asked_of c.asked-asked.result)) stopped ∙ ap (λ (o : Option ℕ). from.lost.items ++ (numbers n.waiting ++ asked_of o)) c.asked-asked.ensures) c.go_down.ensures.lost,
       c.go_down.ensures.text,
       c.go_down.ensures.struck_failures,
       c.go_down.ensures.failures,
