@@ -22,7 +22,7 @@ use crate::statement_nodes::nodes_of;
 use rq_grammar::Stmt;
 use rq_moments::{Shown, texts_of};
 use rq_outside::Draws;
-use rq_statement::{SettleError as Unsettled, Settled};
+use rq_statement::{Settled, Unsettled};
 use rq_values::{NoMemory, Seq};
 use std::alloc::Global;
 

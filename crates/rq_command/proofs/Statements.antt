@@ -11,7 +11,7 @@ use Rattle.rq_sql.specs.declared.error.ReadError.TheVariants as e
 use Rattle.rq_sql.specs.Read.{Means, Reads}
 use Rattle.rq_statement.specs.declared.item.Item.{Item}
 use Rattle.rq_statement.specs.declared.item.Item.TheVariants.{Run, Fail}
-use Rattle.rq_statement.specs.declared.settled.SettleError.TheVariants as errors
+use Rattle.rq_statement.specs.declared.settled.Unsettled.TheVariants as errors
 use Rattle.rq_statement.specs.Fixed.{statement_fixed}
 use Rattle.rq_statement.specs.Settled.{most_bytes, IsSettled}
 use Rattle.rq_statement.specs.Unsettled.{IsUnsettled}

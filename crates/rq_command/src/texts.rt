@@ -9,7 +9,7 @@ ghost use Rattle.rq_command.specs.Reading.{IsReadAs, IsItemOf};
 use rq_canonical::what_is_read_is_proper;
 use rq_grammar::Stmt;
 use rq_sql::{ReadError, each_text_has_one_answer, read};
-use rq_statement::{Item, SettleError, Settled};
+use rq_statement::{Item, Settled, Unsettled};
 use rq_values::{NoMemory, Text};
 use std::alloc::Global;
 
@@ -29,9 +29,9 @@ fn item_of(alloc: Global, stmt: Stmt) -> Result<Item, NoMemory>
 {
     match Settled::new(alloc, stmt) {
         Ok(settled) => Ok(Item::Run(settled)),
-        Err(SettleError::NotFixed) => Ok(no_statement(alloc)),
-        Err(SettleError::TooLarge(_)) => Ok(no_statement(alloc)),
-        Err(SettleError::NoMemory) => Err(NoMemory),
+        Err(Unsettled::NotFixed) => Ok(no_statement(alloc)),
+        Err(Unsettled::TooLarge(_)) => Ok(no_statement(alloc)),
+        Err(Unsettled::NoMemory) => Err(NoMemory),
     }
 }
 

@@ -1,4 +1,3 @@
-pub mod Command
 pub mod Database
 pub mod Fold
 pub mod Lists

@@ -17,5 +17,4 @@ mod valuing;
 
 pub use outcome::Outcome;
 pub use replica::Replica;
-pub use rq_statement::encode_execute;
 pub use tables::Tables;

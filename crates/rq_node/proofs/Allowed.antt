@@ -15,7 +15,7 @@ use Rattle.rq_wal.specs.Reading.{text_limit, is_small}
 use Rattle.rq_wal.specs.Rules.{AreAllowed}
 use Rattle.rq_wal.specs.Spelling.{payload_bytes}
 use Rattle.rq_statement.specs.declared.item.Item.{Item}
-use Rattle.rq_engine.specs.Command.{execute_bytes}
+use Rattle.rq_statement.specs.Bytes.{execute_bytes}
 use Rattle.rq_node.specs.declared.log_entry.LogEntry.{LogEntry}
 use Rattle.rq_node.specs.declared.log_entry.Content.TheVariants.{NoOp, Execute}
 use Rattle.rq_node.specs.Files.{body_of, stored_entry, stored_of, frame_of}

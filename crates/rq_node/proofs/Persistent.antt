@@ -10,7 +10,7 @@ use Rattle.rq_wire.specs.declared.frame.Frame.TheVariants as shapes
 use Rattle.rq_wal.specs.Stored.{applied, applied_all, started, stored_after}
 use Rattle.rq_wal.specs.Current.{IsSome}
 use Rattle.rq_statement.specs.declared.item.Item.{Item}
-use Rattle.rq_engine.specs.Command.{execute_bytes}
+use Rattle.rq_statement.specs.Bytes.{execute_bytes}
 use Rattle.rq_wire.specs.declared.entry.Body.TheVariants as body
 use Rattle.rq_node.specs.declared.log_entry.LogEntry.{LogEntry}
 use Rattle.rq_node.specs.declared.log_entry.Content.TheVariants.{NoOp, Execute}

@@ -13,7 +13,7 @@ use Rattle.rq_values.specs.Spelling.{u32_bytes}
 use Rattle.rq_statement.specs.declared.item.Item.{Item}
 use Rattle.rq_statement.specs.declared.item.Item.TheVariants.{Run, Fail}
 use Rattle.rq_statement.specs.Bytes.{item_bytes}
-use Rattle.rq_engine.specs.Command.{execute_bytes}
+use Rattle.rq_statement.specs.Bytes.{execute_bytes}
 use Rattle.rq_command.specs.Stored.{text_of, IsItem, IsCommand}
 use Rattle.rq_node.specs.declared.log_entry.LogEntry.{LogEntry}
 use Rattle.rq_node.specs.declared.log_entry.Content.TheVariants.{Execute}

@@ -12,7 +12,7 @@ use Rattle.rq_request.specs.declared.say.Say.TheVariants.{Results, Refused}
 use Rattle.rq_request.specs.declared.say.NodeRefusal.TheVariants.{NoLeader, EntryTooLarge}
 use Rattle.rq_request.specs.declared.say.Answer.{Answer}
 use Rattle.rq_engine.specs.Meaning.{executed, answers}
-use Rattle.rq_engine.specs.Command.{execute_bytes}
+use Rattle.rq_statement.specs.Bytes.{execute_bytes}
 use Rattle.rq_node.specs.Sound.{most_bytes}
 use Rattle.rq_node.specs.Node.{Node, Persistent, Turn, StoredRecord, Vote, Splice, Boot, unchanged, says}
 

@@ -1,7 +1,7 @@
 -- What a node's parts keep.
 pub use Rattle.rq_command.specs.Stored.{IsReadable}
 use Rattle.std.specs.Prelude.{◌≤◌, ℕ, List, length, All, ⊤}
-use Rattle.rq_engine.specs.Command.{execute_bytes}
+use Rattle.rq_statement.specs.Bytes.{execute_bytes}
 use Rattle.rq_node.specs.declared.log_entry.LogEntry.{LogEntry}
 use Rattle.rq_node.specs.declared.log_entry.Content.{Content}
 use Rattle.rq_node.specs.declared.log_entry.Content.TheVariants.{NoOp, Execute}

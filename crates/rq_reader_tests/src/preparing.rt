@@ -1,7 +1,7 @@
 //! Statements read, printed, spelled and run.
-use rq_engine::{Tables, encode_execute};
+use rq_engine::Tables;
 use rq_settle::prepare;
-use rq_statement::{Item, Res};
+use rq_statement::{Item, Res, encode_execute};
 use rq_values::{NoMemory, Seq, Text, Value};
 use std::alloc::Global;
 use std::test::Fail;

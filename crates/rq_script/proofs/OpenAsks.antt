@@ -9,7 +9,7 @@ use Rattle.rq_request.specs.declared.say.Say.{Say}
 use Rattle.rq_request.specs.declared.say.Say.TheVariants.{Results, Refused}
 use Rattle.rq_request.specs.declared.say.NodeRefusal.TheVariants.{NoLeader, EntryTooLarge}
 use Rattle.rq_engine.specs.Meaning.{executed, answers}
-use Rattle.rq_engine.specs.Command.{execute_bytes}
+use Rattle.rq_statement.specs.Bytes.{execute_bytes}
 use Rattle.rq_json.specs.Body.{texts_of}
 use Rattle.rq_node.specs.declared.log_entry.LogEntry.{LogEntry}
 use Rattle.rq_node.specs.declared.log_entry.Content.{Content}

@@ -7,7 +7,7 @@ use Rattle.std.proofs.lemmas.Bool.Decides.{nat_tests}
 use Rattle.rq_grammar.specs.declared.stmt.Stmt.{Stmt}
 use Rattle.rq_statement.specs.declared.item.Item.{Item}
 use Rattle.rq_statement.specs.declared.item.Item.TheVariants.{Run, Fail}
-use Rattle.rq_statement.specs.declared.settled.SettleError.TheVariants as errors
+use Rattle.rq_statement.specs.declared.settled.Unsettled.TheVariants as errors
 use Rattle.rq_statement.specs.Fixed.{statement_fixed}
 use Rattle.rq_statement.specs.Settled.{IsSettled}
 use Rattle.rq_statement.specs.Unsettled.{IsUnsettled}

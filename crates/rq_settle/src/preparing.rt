@@ -11,7 +11,7 @@ use crate::refusing::{incomplete, near, not_built, not_in_profile, too_deep, too
 use rq_canonical::what_is_read_is_proper;
 use rq_grammar::Stmt;
 use rq_sql::{ReadError, each_text_has_one_answer, read};
-use rq_statement::{Item, SettleError, Settled};
+use rq_statement::{Item, Settled, Unsettled};
 use rq_values::{NoMemory, Text};
 use std::alloc::Global;
 
@@ -51,13 +51,13 @@ fn error_text(alloc: Global, text: &[u8], error: ReadError) -> Result<Text, NoMe
 
 /// The item of a statement that isn't settled. Want of memory is none.
 #[tactic(auto, using(crate::proofs::Sources::not_fixed_item, crate::proofs::Sources::too_large_item))]
-fn item_of_error(alloc: Global, error: SettleError) -> Result<Item, NoMemory>
+fn item_of_error(alloc: Global, error: Unsettled) -> Result<Item, NoMemory>
     ensures { IfOk result (λ item. (stmt : TheStmt) → IsUnsettled stmt error → item ≡ spec.item_of_statement stmt) }
 {
     match error {
-        SettleError::NotFixed => Ok(Item::Fail(not_built(alloc)?)),
-        SettleError::TooLarge(len) => Ok(Item::Fail(too_large(alloc, len)?)),
-        SettleError::NoMemory => Err(NoMemory),
+        Unsettled::NotFixed => Ok(Item::Fail(not_built(alloc)?)),
+        Unsettled::TooLarge(len) => Ok(Item::Fail(too_large(alloc, len)?)),
+        Unsettled::NoMemory => Err(NoMemory),
     }
 }
 

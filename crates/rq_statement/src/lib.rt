@@ -15,4 +15,4 @@ pub use fixed::is_fixed_statement;
 pub use item::{Item, know_item, know_items};
 pub use list::StatementList;
 pub use res::Res;
-pub use settled::{SettleError, Settled};
+pub use settled::{Settled, Unsettled};

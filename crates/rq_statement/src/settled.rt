@@ -50,7 +50,7 @@ impl Drop for Settled {
 
 /// Why a statement can't be settled.
 #[derive(Clone, Copy)]
-pub enum SettleError {
+pub enum Unsettled {
     /// It has a parameter, a random node or a time node.
     NotFixed,
     /// Its canonical text has so many bytes, more than one may have.
@@ -61,7 +61,7 @@ pub enum SettleError {
 impl Settled {
     /// The statement with its canonical text, where it has no parameter, no random node and no time node, and that text isn't
     /// too long.
-    pub fn new(alloc: Global, stmt: Stmt) -> Result<Settled, SettleError>
+    pub fn new(alloc: Global, stmt: Stmt) -> Result<Settled, Unsettled>
         requires proper { is_statement stmt ≡ true }
         requires shallow { deepest stmt ≤ the_limits.depth }
         ensures settled { IfOk result (λ settled. (settled ≡ stmt) × spec.IsSettled stmt) }
@@ -69,14 +69,14 @@ impl Settled {
     {
         if !is_fixed_statement(&stmt) {
             drop(stmt);
-            return Err(SettleError::NotFixed);
+            return Err(Unsettled::NotFixed);
         }
         each_statement_is_written(&stmt);
         match printed(alloc, &stmt) {
             Ok(text) => with_text(stmt, text),
             Err(_) => {
                 drop(stmt);
-                Err(SettleError::NoMemory)
+                Err(Unsettled::NoMemory)
             }
         }
     }
@@ -110,7 +110,7 @@ impl TryCopy for Settled {
 }
 
 /// The statement with its text, where that isn't too long.
-fn with_text(stmt: Stmt, text: Vec<u8>) -> Result<Settled, SettleError>
+fn with_text(stmt: Stmt, text: Vec<u8>) -> Result<Settled, Unsettled>
     requires fixed { spec.IsFixed stmt }
     requires text { text.items ≡ text_of stmt }
     ensures settled { IfOk result (λ settled. (settled ≡ stmt) × spec.IsSettled stmt) }
@@ -122,6 +122,6 @@ fn with_text(stmt: Stmt, text: Vec<u8>) -> Result<Settled, SettleError>
     } else {
         drop(text);
         drop(stmt);
-        Err(SettleError::TooLarge(len))
+        Err(Unsettled::TooLarge(len))
     }
 }

@@ -4,7 +4,7 @@ use Rattle.std.specs.Prelude.{nat_lt, nat_le, slice_get}
 use Rattle.std.proofs.lemmas.List.{length-append, length-take, append_cancel_left}
 use Rattle.rq_statement.specs.declared.item.Item.{Item}
 use Rattle.rq_world.specs.declared.say.Say.TheVariants.{NoLeader, Stale, EntryTooLarge, QueuedTooLarge, Full}
-use Rattle.rq_engine.specs.Command.{execute_bytes}
+use Rattle.rq_statement.specs.Bytes.{execute_bytes}
 use Rattle.rq_world.specs.Commands.{strong_query_bytes}
 use Rattle.rq_wire.specs.declared.config.Member.{Member}
 use Rattle.rq_history.specs.History.{NodeId, Node as HistoryNode, WasBefore}

@@ -4,7 +4,7 @@ use Rattle.std.specs.Prelude.{nat_lt, nat_le, not, bytes_eq, ◌==◌}
 use Rattle.rq_statement.specs.declared.item.Item.{Item}
 use Rattle.rq_statement.specs.declared.res.Res.{Res}
 use Rattle.rq_engine.specs.Meaning.{answers}
-use Rattle.rq_engine.specs.Command.{execute_bytes}
+use Rattle.rq_statement.specs.Bytes.{execute_bytes}
 use Rattle.rq_wire.specs.declared.config.Member.{Member}
 use Rattle.rq_raft.specs.Node.{Message, VoteAsk, VoteSay, Append, AppendSay, Install, InstallSay, Packet, RaftTurn, is_leader}
 use Rattle.rq_raft.specs.Vote as vote

@@ -8,7 +8,7 @@ use Rattle.rq_world.specs.declared.say.Say.{Say}
 use Rattle.rq_world.specs.declared.say.Say.TheVariants.{Results, Queued, NoLeader, Stale, EntryTooLarge, QueuedTooLarge, Full}
 use Rattle.rq_statement.specs.declared.res.Res.{Res}
 use Rattle.rq_engine.specs.Database.{Database}
-use Rattle.rq_engine.specs.Command.{execute_bytes}
+use Rattle.rq_statement.specs.Bytes.{execute_bytes}
 use Rattle.rq_world.specs.Commands.{strong_query_bytes}
 use Rattle.rq_engine.specs.Meaning.{answers}
 use Rattle.rq_history.specs.History.{NodeId, IsPrefixOf}

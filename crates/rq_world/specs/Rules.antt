@@ -6,7 +6,7 @@ use Rattle.rq_world.specs.declared.say.Say.TheVariants.{Results, Queued, NoLeade
 use Rattle.rq_world.specs.declared.say.Say.{Say}
 use Rattle.rq_world.specs.declared.say.Answer.{Answer}
 use Rattle.rq_engine.specs.Meaning.{executed, answers}
-use Rattle.rq_engine.specs.Command.{execute_bytes}
+use Rattle.rq_statement.specs.Bytes.{execute_bytes}
 use Rattle.rq_world.specs.Commands.{strong_query_bytes}
 use Rattle.rq_engine.specs.Database.{Database}
 use Rattle.rq_wire.specs.declared.config.Member.{Member}

@@ -3,7 +3,7 @@ ghost use Rattle.std.specs.Prelude.{◌≡◌, ◌∷◌, ◌≤◌, ◌*◌, []
 ghost use Rattle.rq_outside.specs.Pair.{arm_of, UsedCalls};
 ghost use Rattle.rq_values.specs.Exact.{AreBytes};
 ghost use Rattle.rq_engine.specs.Meaning.{answers};
-ghost use Rattle.rq_engine.specs.Command.{execute_bytes};
+ghost use Rattle.rq_statement.specs.Bytes.{execute_bytes};
 ghost use Rattle.rq_request.specs.declared.say.Say.TheVariants.{Results};
 ghost use Rattle.rq_wal.specs.Calls.{PassesMost};
 ghost use Rattle.rq_wal.specs.Later.{Later};
@@ -20,7 +20,7 @@ use crate::log_entry::{Content, LogEntry};
 use crate::role::Role;
 use crate::turn_error::TurnError;
 use crate::waiting::Waiting;
-use rq_engine::encode_execute;
+use rq_statement::encode_execute;
 use rq_outside::{Disk, DiskPair};
 use rq_request::{NodeRefusal, Say};
 use rq_statement::Item;

@@ -18,7 +18,7 @@ ghost use Rattle.rq_node.specs.declared.log_entry.Content.TheVariants.{Execute};
 ghost use Rattle.rq_values.specs.declared.error.DecodeError.{DecodeError as TheError};
 ghost use Rattle.rq_values.specs.declared.error.DecodeError.TheVariants as commands;
 ghost use Rattle.rq_statement.specs.declared.item.Item.{Item as TheItem};
-ghost use Rattle.rq_engine.specs.Command.{execute_bytes};
+ghost use Rattle.rq_statement.specs.Bytes.{execute_bytes};
 ghost use Rattle.rq_node.specs.Files.{first_base, first_image, body_of, stored_entry, stored_of};
 ghost use Rattle.rq_node.specs.Opened.{refusal_of, most_boots, IsNoCommand, IsNoEntry, IsNoLog, IsRefusal, IsStart};
 ghost use Rattle.rq_node.specs.Rules.{started};
