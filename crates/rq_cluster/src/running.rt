@@ -3,7 +3,7 @@ ghost use Rattle.std.specs.Prelude.{◌≡◌, ◌≤◌, ◌⊎◌, ◌++◌, [
 ghost use Rattle.rq_outside.specs.Counts.{Rose};
 ghost use Rattle.rq_node.specs.Node.{Node};
 ghost use Rattle.rq_script.specs.Answering.{AppliesAnswerAll};
-ghost use Rattle.rq_script.specs.Cluster.{Server, Cluster, Steps, first_cluster, unanswered};
+ghost use Rattle.rq_script.specs.Cluster.{Server, Cluster, Steps, first_cluster, first_ids, unanswered};
 ghost use Rattle.rq_script.specs.FromAsks.{IsAsked};
 ghost use Rattle.rq_script.specs.History.{history, node_in, notes_of};
 ghost use Rattle.rq_script.specs.Lines.{Line, IsWithin};
@@ -20,7 +20,7 @@ ghost use Rattle.rq_cluster.specs.Outcome.{Took, Wrote, IsStatus};
 ghost use Rattle.rq_cluster.specs.Recovery.{AreNew, Holds};
 
 use crate::ending::{end_script, last_line, stop_at};
-use crate::feeding::{MAX_LINE, Stop, without_cr};
+use crate::feeding::{Stop, without_cr};
 use crate::progress::Progress;
 use crate::reading_lines::read_all;
 use crate::reason::{Reason, Stopped};
@@ -33,6 +33,7 @@ use rq_script::laws::{
     what_was_chosen_is_kept,
 };
 use rq_settle::each_text_is_prepared;
+use rq_values::MAX_LINE;
 use std::alloc::Global;
 
 /// How a run of the top call ends: its status, and why a script was stopped at a line.
@@ -108,9 +109,9 @@ pub fn cluster_main<S: Source, K: Sink, D: CrashDisk, R: Draws>(
     ensures refused { (place : ℕ) (word : List ℕ) → wrong_word words.now ≡ Some (place, word) → (Rose (K.faults sink.old) (K.faults sink.new) → ⊥) →
         (result ≡ 2) ⊎ (result ≡ 6) }
 
-    // At each moment of that run, as of every run, the database is the fold of a prefix of the one log and each answer is right;
+    // At each moment of that run, as of every run, the replica is the fold of a prefix of the one log and each answer is right;
     // what was chosen stands in what the server keeps, running or down; and what was chosen and noted only grows.
-    ensures each_moment { (lines : List Line) (text : List ℕ) (c : Cluster) (run : Runs lines text c) → Keeps (history run) (node_in c) }
+    ensures each_moment { (lines : List Line) (text : List ℕ) (c : Cluster) (run : Runs lines text c) → Keeps (first_ids c.server) (history run) (node_in c) }
     ensures kept { (lines : List Line) (text : List ℕ) (c : Cluster) (run : Runs lines text c) (s : Server) → c.server ≡ Some s → IsKept (history run).chosen s.stand }
     ensures grows { (lines : List Line) (text : List ℕ) (c : Cluster) (run : Runs lines text c) (l : Line) (more : List ℕ) (next : Cluster) (within : IsWithin l) (steps : Steps c l.text more next) →
         Grows (history run) (history (Runs.line l more next run within steps)) }

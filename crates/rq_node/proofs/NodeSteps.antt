@@ -8,11 +8,12 @@ use Rattle.rq_node.specs.declared.log_entry.Content.{Content}
 use Rattle.rq_node.specs.declared.waiting.Waiting.{Waiting}
 use Rattle.rq_statement.specs.declared.item.Item.{Item}
 use Rattle.rq_statement.specs.declared.res.Res.{Res}
-use Rattle.rq_engine.specs.Database.{Database}
-use Rattle.rq_engine.specs.Meaning.{executed}
+use Rattle.rq_engine.specs.declared.outcome.Outcome.{Outcome}
+use Rattle.rq_engine.specs.declared.outcome.Outcome.TheVariants.{Results}
+use Rattle.rq_engine.specs.Fold.{State, run}
 use Rattle.rq_node.specs.declared.log_entry.Content.TheVariants.{NoOp, Execute}
 use Rattle.rq_node.specs.Node.{Node, Turn, StoredRecord}
-use Rattle.rq_node.specs.Rules.{apply_times, apply_next, applied_entry, applied_content, answered, left_waiting}
+use Rattle.rq_node.specs.Rules.{apply_times, apply_next, applied_entry, applied_content, answered, command_of, left_waiting, results_of}
 
 -- one entry more is applied
 pub times_next : (a c : ℕ) (turn : Turn) → a < c → apply_times (c - a) turn ≡ apply_times (c - (a + 1)) (apply_next turn)
@@ -45,23 +46,39 @@ applies_seen n m entry content same less within is holds =
     let P : Node → Type 0 = λ k. k.applied < k.commit → applied_entry k (slice_get k.log k.applied) ≡ applied_content k (k.applied + 1) content in
     subst P same (λ below. applies m entry content (omega (arith, below, within)) is holds) less
 
+applied_by_parts : (n m : Node) (entry : LogEntry) (content : Content) → m ≡ n → n.applied < n.commit → m.commit ≤ length m.log → entry ≡ get_or m.log m.applied entry → entry.content ≡ content
+    → applied_content m (m.applied + 1) content ≡ applied_entry n (slice_get n.log n.applied)
+applied_by_parts n m entry content same less within is holds =
+    let turn = applies_seen n m entry content same less within is holds in
+    sym (turn ∙ ap (λ (k : Node). applied_content k (k.applied + 1) content) (sym same))
+
+-- the entry that begins a term leaves the replica as it was
+no_op_leaves : (replica : State) → (run replica (command_of NoOp)).0 ≡ replica
+unfolding run
+no_op_leaves replica = refl
+
+pub no_op_node : (n m : Node) (entry : LogEntry) → m ≡ n → n.applied < n.commit → m.commit ≤ length m.log → entry ≡ get_or m.log m.applied entry → entry.content ≡ NoOp
+    → record m { applied = m.applied + 1 } ≡ (applied_entry n (slice_get n.log n.applied)).node
+no_op_node n m entry same less within is holds =
+    let next : Node = record m { applied = m.applied + 1 } in
+    ap (λ (r : State). record next { replica = r }) (sym (no_op_leaves m.replica))
+    ∙ ap (λ (t : Turn). t.node) (applied_by_parts n m entry NoOp same less within is holds)
+
 -- what an entry with a list changes, by the new parts
 module _ (n m : Node) (entry : LogEntry) (items : List Item) (same : m ≡ n) (less : n.applied < n.commit) (within : m.commit ≤ length m.log)
     (is : entry ≡ get_or m.log m.applied entry) (holds : entry.content ≡ Execute items) where
   executes : applied_content m (m.applied + 1) (Execute items) ≡ applied_entry n (slice_get n.log n.applied)
-  executes =
-      let turn = applies_seen n m entry (Execute items) same less within is holds in
-      sym (turn ∙ ap (λ (k : Node). applied_content k (k.applied + 1) (Execute items)) (sym same))
+  executes = applied_by_parts n m entry (Execute items) same less within is holds
 
-  pub executes_node : (waiting : List Waiting) (database : Database) → waiting ≡ left_waiting (m.applied + 1) m.waiting → database ≡ (executed m.database items).0
-      → record m { applied = m.applied + 1; waiting = waiting; database = database } ≡ (applied_entry n (slice_get n.log n.applied)).node
-  executes_node waiting database left made =
+  pub executes_node : (waiting : List Waiting) (replica : State) → waiting ≡ left_waiting (m.applied + 1) m.waiting → replica ≡ (run m.replica (command_of (Execute items))).0
+      → record m { applied = m.applied + 1; waiting = waiting; replica = replica } ≡ (applied_entry n (slice_get n.log n.applied)).node
+  executes_node waiting replica left made =
       let next : Node = record m { applied = m.applied + 1 } in
-      ap (λ (w : List Waiting). record next { waiting = w; database = database }) left
-      ∙ ap (λ (d : Database). record next { waiting = left_waiting (m.applied + 1) m.waiting; database = d }) made
+      ap (λ (w : List Waiting). record next { waiting = w; replica = replica }) left
+      ∙ ap (λ (r : State). record next { waiting = left_waiting (m.applied + 1) m.waiting; replica = r }) made
       ∙ ap (λ (t : Turn). t.node) executes
 
-  pub executes_answers : (before after : List Answer) (results : List Res) → after ≡ before ++ answered (m.applied + 1) results m.waiting → results ≡ (executed m.database items).1
+  pub executes_answers : (before after : List Answer) (results : List Res) → after ≡ before ++ answered (m.applied + 1) results m.waiting → results ≡ results_of (run m.replica (command_of (Execute items))).1
       → after ≡ before ++ (applied_entry n (slice_get n.log n.applied)).answers
   executes_answers before after results answers made =
       answers
@@ -128,8 +145,8 @@ module _ (n next : Node) (less : n.applied < n.commit) (within : n.commit ≤ le
       ∙ so_far
 
 -- the parts of what a list does
-pub first_part : (outcome : Database × List Res) (database : Database) (results : List Res) → outcome ≡ (database, results) → database ≡ outcome.0
-first_part outcome database results is = sym (ap (λ (o : Database × List Res). o.0) is)
+pub first_part : (made : State × Outcome) (replica : State) (results : List Res) → made ≡ (replica, Results results) → replica ≡ made.0
+first_part made replica results is = sym (ap (λ (m : State × Outcome). m.0) is)
 
-pub second_part : (outcome : Database × List Res) (database : Database) (results : List Res) → outcome ≡ (database, results) → results ≡ outcome.1
-second_part outcome database results is = sym (ap (λ (o : Database × List Res). o.1) is)
+pub second_part : (made : State × Outcome) (replica : State) (results : List Res) → made ≡ (replica, Results results) → results ≡ results_of made.1
+second_part made replica results is = sym (ap (λ (m : State × Outcome). results_of m.1) is)

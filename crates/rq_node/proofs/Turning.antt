@@ -6,12 +6,10 @@ use Rattle.rq_statement.specs.declared.item.Item.{Item}
 use Rattle.rq_request.specs.declared.say.Say.TheVariants.{Refused}
 use Rattle.rq_request.specs.declared.say.NodeRefusal.TheVariants.{NoLeader, EntryTooLarge}
 use Rattle.rq_statement.specs.Bytes.{execute_bytes}
-use Rattle.rq_node.specs.declared.event.Event.{Event}
-use Rattle.rq_node.specs.declared.event.Event.TheVariants as event
 use Rattle.rq_node.specs.declared.log_entry.LogEntry.{LogEntry}
 use Rattle.rq_node.specs.declared.log_entry.Content.{Content}
 use Rattle.rq_node.specs.declared.log_entry.Content.TheVariants.{NoOp, Execute}
-use Rattle.rq_node.specs.Events.{rule, IsEventReadable, IsKept, IsModest}
+use Rattle.rq_node.specs.Events.{KeepsPersistent, IsModest}
 use Rattle.rq_node.specs.Node.{Node, Persistent, StoredRecord, Vote, Turn, unchanged, says, persistent_of}
 use Rattle.rq_node.specs.Rules.{elect, led, risen, entry_in, splice_of, execute, execute_sized, taken_up, is_leader, apply, apply_times, apply_next, applied_entry, applied_content}
 use Rattle.rq_node.specs.Sound.{AreReadable, IsPersistentReadable, IsReadable, most_bytes}
@@ -29,7 +27,7 @@ splice_read n content reads = all_one IsItemReadable (splice_of n content) (all_
 no_op_read : (n : Node) → All IsItemReadable (led n).records
 no_op_read n = all_with IsItemReadable (Vote (n.term + 1) (Some n.id)) (splice_of (risen n) NoOp ∷ []) tt (splice_read (risen n) NoOp tt)
 
-elect_modest : (n : Node) → AreReadable n.log → IsModest n (elect n)
+pub elect_modest : (n : Node) → AreReadable n.log → IsModest n (elect n)
 elect_modest n log = by (is_leader n.role || (n.term == 2 ^ 64 - 1))
   where
     by : (b : Bool) → IsModest n (if b then unchanged n else led n)
@@ -38,10 +36,10 @@ elect_modest n log = by (is_leader n.role || (n.term == 2 ^ 64 - 1))
 
 -- ---- an ask
 
-says_modest : (n : Node) (number : ℕ) (say : _) → AreReadable n.log → IsModest n (says n number say)
+pub says_modest : (n : Node) (number : ℕ) (say : _) → AreReadable n.log → IsModest n (says n number say)
 says_modest n number say log = record { id = refl; few = omega arith; readable = (log, none_read) }
 
-execute_modest : (n : Node) (number : ℕ) (items : List Item) → All IsReadable items → AreReadable n.log → IsModest n (execute n number items)
+pub execute_modest : (n : Node) (number : ℕ) (items : List Item) → All IsReadable items → AreReadable n.log → IsModest n (execute n number items)
 execute_modest n number items reads log = by (is_leader n.role)
   where
     sized : (b : Bool) → nat_lt most_bytes (length (execute_bytes items)) ≡ b → IsModest n (if b then says n number (Refused (EntryTooLarge (length (execute_bytes items)))) else taken_up n number items)
@@ -82,7 +80,7 @@ apply_unchanged n = times_unchanged (n.commit - n.applied) n (unchanged n) (reco
 pub apply_stores : (n : Node) → (apply n).records ≡ []
 apply_stores n = (apply_unchanged n).records
 
-apply_modest : (n : Node) → AreReadable n.log → IsModest n (apply n)
+pub apply_modest : (n : Node) → AreReadable n.log → IsModest n (apply n)
 apply_modest n log =
     let is = apply_unchanged n in
     record {
@@ -92,13 +90,5 @@ apply_modest n log =
     }
 
 -- what one entry leaves, and then others
-pub kept_both : (a b c : Node) → IsKept a b → IsKept b c → IsKept a c
+pub kept_both : (a b c : Node) → KeepsPersistent a b → KeepsPersistent b c → KeepsPersistent a c
 kept_both a b c one two = record { id = two.id ∙ one.id; persistent = two.persistent ∙ one.persistent }
-
--- ---- each event
-
-pub modest : (e : Event) (n : Node) → IsEventReadable e → AreReadable n.log → IsModest n (rule e n)
-modest (event.Execute number items) n reads log = execute_modest n number items reads log
-modest (event.Query number items) n reads log = record { id = refl; few = omega arith; readable = (log, none_read) }
-modest event.Elect n reads log = elect_modest n log
-modest event.Apply n reads log = apply_modest n log

@@ -1,11 +1,10 @@
 -- The events of a node: the rule of each, and what it brings about.
-use Rattle.std.specs.Prelude.{◌≡◌, ◌≤◌, ℕ, length, Option, Some, None, All, ⊤}
+use Rattle.std.specs.Prelude.{◌≡◌, ◌≤◌, ℕ, length, Option, Some, None}
 use Rattle.rq_node.specs.declared.event.Event.{Event}
 use Rattle.rq_node.specs.declared.event.Event.TheVariants.{Execute, Query, Elect, Apply}
 use Rattle.rq_node.specs.declared.event.Effects.{Effects}
 use Rattle.rq_node.specs.Node.{Node, Turn, persistent_of}
 use Rattle.rq_node.specs.Rules.{execute, query, elect, apply}
-use Rattle.rq_node.specs.Sound.{IsReadable}
 use Rattle.rq_node.specs.Recovery.{CanBeRead}
 
 abbrev pub rule : Event → Node → Turn
@@ -21,20 +20,13 @@ asked (Query number items) = Some number
 asked Elect = None
 asked Apply = None
 
--- what is to be stored can be read from the log again
-abbrev pub IsEventReadable : Event → Type 0
-IsEventReadable (Execute number items) = All IsReadable items
-IsEventReadable (Query number items) = ⊤
-IsEventReadable Elect = ⊤
-IsEventReadable Apply = ⊤
-
 -- these are the effects of the turn
 pub record Brings (turn : Turn) (effects : Effects) : Type 0 where
   pub stored : effects.stored ≡ length turn.records
   pub answers : effects.answers ≡ turn.answers
 
 -- the same node, which keeps the same
-pub record IsKept (old new : Node) : Type 0 where
+pub record KeepsPersistent (old new : Node) : Type 0 where
   pub id : new.id ≡ old.id
   pub persistent : persistent_of new ≡ persistent_of old
 
@@ -43,7 +35,7 @@ abbrev pub IsLeft : Event → Node → Node → Type 0
 IsLeft (Execute number items) old new = new ≡ old
 IsLeft (Query number items) old new = new ≡ old
 IsLeft Elect old new = new ≡ old
-IsLeft Apply old new = IsKept old new
+IsLeft Apply old new = KeepsPersistent old new
 
 -- a turn leaves the node its name, and stores at most two records, which can be read again
 pub record IsModest (n : Node) (turn : Turn) : Type 0 where

@@ -1,6 +1,6 @@
 -- A node, what it keeps when it stops, and what a rule gives: docs/RAFT.md, "The node".
 use Rattle.std.specs.Prelude.{◌-◌, ℕ, List, [], ◌∷◌, ◌++◌, take, Option}
-use Rattle.rq_engine.specs.Database.{Database}
+use Rattle.rq_engine.specs.Fold.{State}
 use Rattle.rq_node.specs.declared.log_entry.LogEntry.{LogEntry}
 use Rattle.rq_node.specs.declared.role.Role.{Role}
 use Rattle.rq_node.specs.declared.waiting.Waiting.{Waiting}
@@ -18,7 +18,7 @@ pub record Node : Type 0 where
   pub applied : ℕ
   pub role : Role
   pub waiting : List Waiting  -- asks whose entry isn't applied yet, in rising order of indexes
-  pub database : Database  -- the replica: what the applied entries made of an empty database
+  pub replica : State  -- what the commands of the applied entries made of the first state
 
 -- what of a node outlives a stop
 pub record Persistent : Type 0 where

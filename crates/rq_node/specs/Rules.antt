@@ -11,7 +11,11 @@ use Rattle.rq_node.specs.declared.waiting.Waiting.{Waiting}
 use Rattle.rq_request.specs.declared.say.Say.TheVariants.{Results, Refused}
 use Rattle.rq_request.specs.declared.say.NodeRefusal.TheVariants.{NoLeader, EntryTooLarge}
 use Rattle.rq_request.specs.declared.say.Answer.{Answer}
-use Rattle.rq_engine.specs.Meaning.{executed, answers}
+use Rattle.rq_statement.specs.declared.command.Command.{Command}
+use Rattle.rq_statement.specs.declared.command.Command.TheVariants as command
+use Rattle.rq_engine.specs.declared.outcome.Outcome.{Outcome}
+use Rattle.rq_engine.specs.declared.outcome.Outcome.TheVariants as outcome
+use Rattle.rq_engine.specs.Fold.{first, run, answer}
 use Rattle.rq_statement.specs.Bytes.{execute_bytes}
 use Rattle.rq_node.specs.Sound.{most_bytes}
 use Rattle.rq_node.specs.Node.{Node, Persistent, Turn, StoredRecord, Vote, Splice, Boot, unchanged, says}
@@ -55,9 +59,9 @@ execute_sized n number items size = if nat_lt most_bytes size then says n number
 abbrev pub execute : Node → ℕ → List Item → Turn
 execute n number items = if is_leader n.role then execute_sized n number items (length (execute_bytes items)) else says n number (Refused (NoLeader n.term))
 
--- Query at level none: the answer of the node's own database
+-- Query at level none: the answer of the node's own replica
 abbrev pub query : Node → ℕ → List Item → Turn
-query n number items = says n number (Results (answers n.database items))
+query n number items = says n number (Results (answer n.replica items))
 
 -- the first of the asks that wait, where it waits for this index, is answered with these results
 abbrev pub answered : ℕ → List Res → List Waiting → List Answer
@@ -68,13 +72,28 @@ abbrev pub left_waiting : ℕ → List Waiting → List Waiting
 left_waiting index [] = []
 left_waiting index (w ∷ ws) = if w.index == index then ws else w ∷ ws
 
--- Apply: the entry is applied, and the ask that waits for it is answered with its outcome
+-- what an entry has a replica do
+abbrev pub command_of : Content → Command
+command_of NoOp = command.NoOp
+command_of (Execute items) = command.Execute (record { transaction = false; items = items })
+
+-- the results that a command answers
+abbrev pub results_of : Outcome → List Res
+results_of (outcome.Results results) = results
+results_of outcome.Loaded = []
+results_of outcome.Nothing = []
+results_of outcome.Stale = []
+
+-- Apply: the entry's command runs on the replica, and the ask that waits for the entry is answered with its results
+abbrev pub ran : Node → ℕ → Content → Node
+ran n index content = record n { applied = index; replica = (run n.replica (command_of content)).0 }
+
 abbrev pub applied_content : Node → ℕ → Content → Turn
-applied_content n index NoOp = unchanged (record n { applied = index })
+applied_content n index NoOp = unchanged (ran n index NoOp)
 applied_content n index (Execute items) = record {
-  node = record n { applied = index; database = (executed n.database items).0; waiting = left_waiting index n.waiting };
+  node = record (ran n index (Execute items)) { waiting = left_waiting index n.waiting };
   records = [];
-  answers = answered index ((executed n.database items).1) n.waiting;
+  answers = answered index (results_of (run n.replica (command_of (Execute items))).1) n.waiting;
 }
 
 abbrev pub applied_entry : Node → Option LogEntry → Turn
@@ -95,7 +114,7 @@ apply_times (suc n) turn = apply_times n (apply_next turn)
 abbrev pub apply : Node → Turn
 apply n = apply_times (n.commit - n.applied) (unchanged n)
 
--- Start: the node boots once more, with what it keeps; what was committed it doesn't know yet
+-- Start: the node boots once more, with what it keeps; what was committed it doesn't know yet, so its replica is the first
 abbrev pub started : List ℕ → Persistent → Turn
 started id kept = record {
   node = record {
@@ -108,7 +127,7 @@ started id kept = record {
     applied = 0;
     role = Follower;
     waiting = [];
-    database = [];
+    replica = first (id ∷ []);
   };
   records = Boot (kept.boot + 1) ∷ [];
   answers = [];

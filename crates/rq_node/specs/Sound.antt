@@ -1,6 +1,7 @@
 -- What a node's parts keep.
 pub use Rattle.rq_command.specs.Stored.{IsReadable}
 use Rattle.std.specs.Prelude.{◌≤◌, ℕ, List, length, All, ⊤}
+use Rattle.rq_values.specs.declared.limits.TheConstants.{MAX_COMMAND}
 use Rattle.rq_statement.specs.Bytes.{execute_bytes}
 use Rattle.rq_node.specs.declared.log_entry.LogEntry.{LogEntry}
 use Rattle.rq_node.specs.declared.log_entry.Content.{Content}
@@ -8,7 +9,7 @@ use Rattle.rq_node.specs.declared.log_entry.Content.TheVariants.{NoOp, Execute}
 
 -- the most bytes of an entry's command
 abbrev pub most_bytes : ℕ
-most_bytes = 8388608
+most_bytes = MAX_COMMAND
 
 -- what the entry holds is read from the log again
 abbrev pub IsPersistentReadable : Content → Type 0

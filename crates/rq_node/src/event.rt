@@ -11,7 +11,7 @@ use std::alloc::Global;
 pub enum Event {
     /// The ask of this number, to run these statements.
     Execute { number: u64, items: Seq<Item> },
-    /// The ask of this number, for the results of these queries on the node's own database.
+    /// The ask of this number, for the results of these queries on the node's own replica.
     Query { number: u64, items: Seq<Item> },
     /// The node stands for election.
     Elect,

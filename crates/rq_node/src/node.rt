@@ -7,7 +7,7 @@ ghost use Rattle.rq_wal.specs.Calls.{PassesMost};
 ghost use Rattle.rq_wal.specs.Later.{Later, DeviceRose};
 ghost use Rattle.rq_node.specs.declared.turn_error.TurnError.TheVariants.{Disk as DiskFailed, NoMemory as OutOfMemory};
 ghost use Rattle.rq_wal.specs.Rules.{AreAllowed};
-ghost use Rattle.rq_node.specs.Events.{rule, Brings, IsEventReadable, IsKept, IsLeft, IsModest};
+ghost use Rattle.rq_node.specs.Events.{rule, Brings, KeepsPersistent, IsLeft, IsModest};
 ghost use Rattle.rq_node.specs.Files.{frame_of, stored_of};
 ghost use Rattle.rq_node.specs.Node.{Persistent, StoredRecord, persistent_of, persistent_after};
 ghost use Rattle.rq_node.specs.Recovery.{HasFile, IsBroken, IsOpen, Moments};
@@ -20,7 +20,7 @@ use crate::role::Role;
 use crate::turn_error::TurnError;
 use crate::waiting::Waiting;
 use rq_command::items_can_be_read;
-use rq_engine::Tables;
+use rq_engine::Replica;
 use rq_outside::{Disk, DiskPair};
 use rq_values::{Id, NoMemory, Seq};
 use rq_wal::{Frame, WalFile, logs_stand_while_room_is_made};
@@ -46,7 +46,7 @@ pub struct State {
     applied: u64,
     role: Role,
     waiting: VecDeque<Waiting>,
-    tables: Tables,
+    replica: Replica,
 }
 
 impl Model for State {
@@ -69,7 +69,7 @@ impl Model for State {
       applied = s.applied;
       role = s.role;
       waiting = s.waiting.items;
-      database = s.tables;
+      replica = s.replica;
     } };
 
     ghost invariant = { λ s. IsSound s.log.items s.commit s.applied };
@@ -168,10 +168,10 @@ impl Node {
         ensures stopped { IsErrOf result DiskFailed → self.new.state ≡ self.old.state }
         ensures no_memory { IsErrOf result OutOfMemory → IsLeft event self.old.state self.new.state × IsOpen D.told D.means disks.new self.new }
         ensures no_memory_arm { IsErrOf result OutOfMemory → arm_of disks.new ≡ arm_of disks.old }
+        ensures still { (rule event self.old.state).records ≡ [] → disks.new ≡ disks.old }
         ensures later { Later D.means disks.old disks.new }
         ensures modest { IsModest self.old.state (rule event self.old.state) }
     {
-        know_event(&event);
         know_rule(&self.state, &event);
         match event {
             Event::Execute { number, items } => self.execute(alloc, disks, number, items),
@@ -187,7 +187,7 @@ impl Node {
     fn apply(&mut self, alloc: Global) -> Result<Effects, TurnError>
         ensures ok { OnOk result (self.new.state ≡ (apply self.old.state).node) }
         ensures effects { IfOk result (Brings (apply self.old.state)) }
-        ensures kept { IsKept self.old.state self.new.state }
+        ensures kept { KeepsPersistent self.old.state self.new.state }
         ensures file { self.new.file ≡ self.old.file }
         ensures refused { IfErr result (λ e. e ≡ OutOfMemory) }
     {
@@ -197,26 +197,19 @@ impl Node {
 }
 
 /// What the rule of an event leaves as it is. This changes nothing.
-#[tactic(auto, using(crate::proofs::Turning::modest))]
+#[tactic(auto, using(crate::proofs::Turning::elect_modest, crate::proofs::Turning::execute_modest, crate::proofs::Turning::says_modest, crate::proofs::Turning::apply_modest))]
 fn know_rule(state: &State, event: &Event)
     ensures { IsModest state.now (rule event.now state.now) }
 {
     state.know_log();
-    know_event(event);
-}
-
-/// What an event in memory would store can be read again from the log. This changes nothing.
-fn know_event(event: &Event)
-    ensures { IsEventReadable event.now }
-{
     match event {
         Event::Execute { number: _, items } => items_can_be_read(items.as_slice()),
         Event::Query {
             number: _,
             items: _,
-        }
-        | Event::Elect
-        | Event::Apply => {}
+        } => {}
+        Event::Elect => {}
+        Event::Apply => {}
     }
 }
 

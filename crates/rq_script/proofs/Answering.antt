@@ -78,30 +78,30 @@ module _ (book : List Note) (n : Node) (entry : LogEntry) (is : slice_get n.log 
   entry_due all due NoOp holds = noop_due n.waiting n.commit holds all due
   entry_due all due (ExecuteList items) holds = list_due n.waiting n.commit due
 
-next_due : (chosen : List LogEntry) (book : List Note) (n : Node) → Stands chosen book n → n.applied < n.commit → Due n.applied n.waiting n.commit
+next_due : (ids : List (List ℕ)) (chosen : List LogEntry) (book : List Note) (n : Node) → Stands ids chosen book n → n.applied < n.commit → Due n.applied n.waiting n.commit
     → Due (applied_entry n (slice_get n.log n.applied)).node.applied (applied_entry n (slice_get n.log n.applied)).node.waiting (applied_entry n (slice_get n.log n.applied)).node.commit
-next_due chosen book n stands less due = at (slice_get n.log n.applied) refl
+next_due ids chosen book n stands less due = at (slice_get n.log n.applied) refl
   where
     at : (o : Option LogEntry) → slice_get n.log n.applied ≡ o → Due (applied_entry n o).node.applied (applied_entry n o).node.waiting (applied_entry n o).node.commit
     at None none = due
     at (Some entry) is = entry_due book n entry is stands.waiting due entry.content refl
 
 -- all that is committed is applied, and nothing is due then
-all_due : (chosen : List LogEntry) (book : List Note) (k : ℕ) (turn : Turn) → Stands chosen book turn.node → turn.node.commit ≤ length chosen → turn.node.applied + k ≡ turn.node.commit
+all_due : (ids : List (List ℕ)) (chosen : List LogEntry) (book : List Note) (k : ℕ) (turn : Turn) → Stands ids chosen book turn.node → turn.node.commit ≤ length chosen → turn.node.applied + k ≡ turn.node.commit
     → Due turn.node.applied turn.node.waiting turn.node.commit → (apply_times k turn).node.waiting ≡ []
 unfolding apply_times
-all_due chosen book zero turn stands covers bound due = none_due turn.node.applied turn.node.waiting (subst (λ (high : ℕ). Due turn.node.applied turn.node.waiting high) (omega (arith, bound)) due)
-all_due chosen book (suc k) turn stands covers bound due =
-    let one = apply_one chosen book turn.node stands covers (omega (arith, bound)) in
+all_due ids chosen book zero turn stands covers bound due = none_due turn.node.applied turn.node.waiting (subst (λ (high : ℕ). Due turn.node.applied turn.node.waiting high) (omega (arith, bound)) due)
+all_due ids chosen book (suc k) turn stands covers bound due =
+    let one = apply_one ids chosen book turn.node stands covers (omega (arith, bound)) in
     let next = applied_entry turn.node (slice_get turn.node.log turn.node.applied) in
     let still : next.node.commit ≤ length chosen = (let e = one.3 in omega (arith, covers, e)) in
     let more : next.node.applied + k ≡ next.node.commit = (let e = one.3 in let f = one.2 in omega (arith, bound, e, f)) in
-    all_due chosen book k (apply_next turn) one.0 still more (next_due chosen book turn.node stands (omega (arith, bound)) due)
+    all_due ids chosen book k (apply_next turn) one.0 still more (next_due ids chosen book turn.node stands (omega (arith, bound)) due)
 
-answers_all : (chosen : List LogEntry) (book : List Note) (n : Node) → Stands chosen book n → n.commit ≤ length chosen → Due n.applied n.waiting n.commit → AppliesAnswerAll n
-answers_all chosen book n stands covers due =
+answers_all : (ids : List (List ℕ)) (chosen : List LogEntry) (book : List Note) (n : Node) → Stands ids chosen book n → n.commit ≤ length chosen → Due n.applied n.waiting n.commit → AppliesAnswerAll n
+answers_all ids chosen book n stands covers due =
     let within = stands.within in
-    all_due chosen book (n.commit - n.applied) (unchanged n) stands covers (omega (arith, within)) due
+    all_due ids chosen book (n.commit - n.applied) (unchanged n) stands covers (omega (arith, within)) due
 
 -- ---- turns
 
@@ -162,7 +162,7 @@ acted_due c id s act goes = by (bytes_eq s.id id)
 
 module _ (chosen : List LogEntry) (book : List Note) where
   server_due : (c : Cluster) (id : List ℕ) (act : Server → Option (Server × List ℕ)) → FitsAt chosen book c.server → DueAt c.server
-      → ((s : Server) (stand : Stand) → Fits chosen book stand → IsDue stand → ActDue (act (record s { stand = stand })))
+      → ((s : Server) (stand : Stand) → Fits (s.id ∷ []) chosen book stand → IsDue stand → ActDue (act (record s { stand = stand })))
       → MayDue (at_server c id act)
   server_due c id act fits due goes = at c.server fits due
     where
@@ -170,13 +170,13 @@ module _ (chosen : List LogEntry) (book : List Note) where
       at None here now = tt
       at (Some s) here now = acted_due c id s act (goes s s.stand here now)
 
-  event_due : (course : Course) (rule : Node → Turn) (asked : List ℕ) → ((n : Node) → Stands chosen book n → n.commit ≤ length chosen → IsDue (Running n) → IsDue (Running (rule n).node))
-      → (s : Server) (stand : Stand) → Fits chosen book stand → IsDue stand → IsDue (happens_at course (record s { stand = stand }) rule asked).0.stand
-  event_due course rule asked goes s (Running n) (stands, covers) due = ended_due (fate course s.armed (rule n).records) course (record s { stand = Running n }) n (rule n) asked (goes n stands covers due)
+  event_due : (course : Course) (rule : Node → Turn) (asked : List ℕ) → ((ids : List (List ℕ)) (n : Node) → Stands ids chosen book n → n.commit ≤ length chosen → IsDue (Running n) → IsDue (Running (rule n).node))
+      → (s : Server) (stand : Stand) → Fits (s.id ∷ []) chosen book stand → IsDue stand → IsDue (happens_at course (record s { stand = stand }) rule asked).0.stand
+  event_due course rule asked goes s (Running n) (stands, covers) due = ended_due (fate course s.armed (rule n).records) course (record s { stand = Running n }) n (rule n) asked (goes (s.id ∷ []) n stands covers due)
   event_due course rule asked goes s (Down kept rest) fits due = tt
 
   asked_due : (c : Cluster) (course : Course) (id body : List ℕ) (rule : ℕ → List Item → Node → Turn) (items : List Item) → FitsAt chosen book c.server → DueAt c.server
-      → ((n : Node) → Stands chosen book n → n.commit ≤ length chosen → IsDue (Running n) → IsDue (Running (rule (c.asks + 1) items n).node))
+      → ((ids : List (List ℕ)) (n : Node) → Stands ids chosen book n → n.commit ≤ length chosen → IsDue (Running n) → IsDue (Running (rule (c.asks + 1) items n).node))
       → MayDue (ask_at course c id rule items body)
   asked_due c course id body rule items fits due goes = by (texts_of body)
     where
@@ -196,27 +196,27 @@ module _ (chosen : List LogEntry) (book : List Note) where
       at None = opens_due course (new_server id) first_persistent [] course.fault
       at (Some s) = tt
 
-  start_due : (course : Course) (s : Server) (stand : Stand) → Fits chosen book stand → IsDue stand → ActDue (starts course (record s { stand = stand }))
+  start_due : (course : Course) (s : Server) (stand : Stand) → Fits (s.id ∷ []) chosen book stand → IsDue stand → ActDue (starts course (record s { stand = stand }))
   start_due course s (Running n) fits due = tt
   start_due course s (Down kept rest) fits due = opens_due course s kept rest course.fault
 
-  stop_due : (s : Server) (stand : Stand) → Fits chosen book stand → IsDue stand → ActDue (stops (record s { stand = stand }))
+  stop_due : (s : Server) (stand : Stand) → Fits (s.id ∷ []) chosen book stand → IsDue stand → ActDue (stops (record s { stand = stand }))
   stop_due s (Running n) fits due = tt
   stop_due s (Down kept rest) fits due = tt
 
-  arm_due : (calls pick : ℕ) (s : Server) (stand : Stand) → Fits chosen book stand → IsDue stand → ActDue (arms calls pick (record s { stand = stand }))
+  arm_due : (calls pick : ℕ) (s : Server) (stand : Stand) → Fits (s.id ∷ []) chosen book stand → IsDue stand → ActDue (arms calls pick (record s { stand = stand }))
   arm_due calls pick s (Running n) fits due = due
   arm_due calls pick s (Down kept rest) fits due = tt
 
   line_due : (c : Cluster) (line : Line) (items : List Item) (course : Course) → FitsAt chosen book c.server → DueAt c.server → MayDue (done items course c line)
   line_due c Skip items course fits due = due
   line_due c (ClusterLine id) items course fits due = found_due c course id
-  line_due c (At id Elect) items course fits due = server_due c id (λ s. Some (happens_at course s elect [])) fits due (event_due course elect [] (λ n stands covers now. elect_due n stands.inside now))
+  line_due c (At id Elect) items course fits due = server_due c id (λ s. Some (happens_at course s elect [])) fits due (event_due course elect [] (λ ids n stands covers now. elect_due n stands.inside now))
   line_due c (At id Apply) items course fits due =
-      server_due c id (λ s. Some (happens_at course s apply [])) fits due (event_due course apply [] (λ n stands covers now. apply_due n (answers_all chosen book n stands covers now)))
+      server_due c id (λ s. Some (happens_at course s apply [])) fits due (event_due course apply [] (λ ids n stands covers now. apply_due n (answers_all ids chosen book n stands covers now)))
   line_due c (At id (Execute body)) items course fits due =
-      asked_due c course id body (λ number read n. execute n number read) items fits due (λ n stands covers now. execute_due n (c.asks + 1) items stands.within stands.inside now)
-  line_due c (At id (Query body)) items course fits due = asked_due c course id body (λ number read n. query n number read) items fits due (λ n stands covers now. now)
+      asked_due c course id body (λ number read n. execute n number read) items fits due (λ ids n stands covers now. execute_due n (c.asks + 1) items stands.within stands.inside now)
+  line_due c (At id (Query body)) items course fits due = asked_due c course id body (λ number read n. query n number read) items fits due (λ ids n stands covers now. now)
   line_due c (At id Stop) items course fits due = server_due c id stops fits due stop_due
   line_due c (At id (StopWithin calls pick)) items course fits due = server_due c id (arms calls pick) fits due (arm_due calls pick)
   line_due c (At id Start) items course fits due = server_due c id (starts course) fits due (start_due course)
@@ -237,10 +237,10 @@ due (Runs.line {c} l more next run within (way, is)) = subst MayDue is (step_due
 pub all_answered : {lines : _} {text : List ℕ} {c : Cluster} (run : Runs lines text c) (n : Node) → node_in c ≡ Some n → AppliesAnswerAll n
 all_answered {lines} {text} {c} run n is = at c.server (moment run).fits (due run) is
   where
-    runs : (stand : Stand) → Fits (history run).chosen (history run).book stand → IsDue stand → node_at stand ≡ Some n → AppliesAnswerAll n
-    runs (Running m) (stands, covers) now same = let e : m ≡ n = cc in subst AppliesAnswerAll e (answers_all (history run).chosen (history run).book m stands covers now)
-    runs (Down kept rest) fits now same = absurd (cc)
+    runs : (ids : List (List ℕ)) (stand : Stand) → Fits ids (history run).chosen (history run).book stand → IsDue stand → node_at stand ≡ Some n → AppliesAnswerAll n
+    runs ids (Running m) (stands, covers) now same = let e : m ≡ n = cc in subst AppliesAnswerAll e (answers_all ids (history run).chosen (history run).book m stands covers now)
+    runs ids (Down kept rest) fits now same = absurd (cc)
 
     at : (o : Option Server) → FitsAt (history run).chosen (history run).book o → DueAt o → option_and_then (λ (s : Server). node_at s.stand) o ≡ Some n → AppliesAnswerAll n
     at None fits now same = absurd (cc)
-    at (Some s) fits now same = runs s.stand fits now same
+    at (Some s) fits now same = runs (s.id ∷ []) s.stand fits now same

@@ -7,7 +7,7 @@ use Rattle.rq_statement.specs.declared.item.Item.{Item}
 use Rattle.rq_request.specs.declared.say.Say.{Say}
 use Rattle.rq_request.specs.declared.say.Say.TheVariants.{Results, Refused}
 use Rattle.rq_request.specs.declared.say.NodeRefusal.TheVariants.{NoLeader, EntryTooLarge}
-use Rattle.rq_engine.specs.Meaning.{answers}
+use Rattle.rq_engine.specs.Fold.{answer}
 use Rattle.rq_statement.specs.Bytes.{execute_bytes}
 use Rattle.rq_json.specs.Body.{texts_of}
 use Rattle.rq_node.specs.declared.log_entry.LogEntry.{LogEntry}
@@ -276,7 +276,7 @@ line_makes book c (At id (Execute body)) items course fresh from =
     (λ n here. execute_makes book (notes c (At id (Execute body)) items course) c.asks n items (asking_op book course c.server (c.asks + 1) (Write items) (λ n. execute n (c.asks + 1) items) fresh) here)
 line_makes book c (At id (Query body)) items course fresh from =
     asked_line book (notes c (At id (Query body)) items course) c course id body (λ number read n. query n number read) items from
-    (λ n here. says_makes (book ++ notes c (At id (Query body)) items course) (c.asks + 1) n (c.asks + 1) (Results (answers n.database items)) (more_asked book (notes c (At id (Query body)) items course) 0 n.log c.asks (c.asks + 1) (omega arith) here))
+    (λ n here. says_makes (book ++ notes c (At id (Query body)) items course) (c.asks + 1) n (c.asks + 1) (Results (answer n.replica items)) (more_asked book (notes c (At id (Query body)) items course) 0 n.log c.asks (c.asks + 1) (omega arith) here))
 line_makes book c (At id Stop) items course fresh from = server_makes book [] c id stops from (stop_line book c.asks)
 line_makes book c (At id (StopWithin calls pick)) items course fresh from = server_makes book [] c id (arms calls pick) from (arm_line book c.asks calls pick)
 line_makes book c (At id Start) items course fresh from = server_makes book [] c id (starts course) from (start_line book c.asks course)

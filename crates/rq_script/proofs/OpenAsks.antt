@@ -8,7 +8,7 @@ use Rattle.rq_statement.specs.declared.res.Res.{Res}
 use Rattle.rq_request.specs.declared.say.Say.{Say}
 use Rattle.rq_request.specs.declared.say.Say.TheVariants.{Results, Refused}
 use Rattle.rq_request.specs.declared.say.NodeRefusal.TheVariants.{NoLeader, EntryTooLarge}
-use Rattle.rq_engine.specs.Meaning.{executed, answers}
+use Rattle.rq_engine.specs.Fold.{run, answer}
 use Rattle.rq_statement.specs.Bytes.{execute_bytes}
 use Rattle.rq_json.specs.Body.{texts_of}
 use Rattle.rq_node.specs.declared.log_entry.LogEntry.{LogEntry}
@@ -16,7 +16,7 @@ use Rattle.rq_node.specs.declared.log_entry.Content.{Content}
 use Rattle.rq_node.specs.declared.log_entry.Content.TheVariants as content
 use Rattle.rq_node.specs.declared.waiting.Waiting.{Waiting}
 use Rattle.rq_node.specs.Node.{Node, Persistent, StoredRecord, Turn, unchanged, says}
-use Rattle.rq_node.specs.Rules.{is_leader, led, elect, taken_up, execute_sized, answered, left_waiting, applied_content, applied_entry, apply_next, apply_times, execute, query, apply}
+use Rattle.rq_node.specs.Rules.{is_leader, led, elect, taken_up, execute_sized, command_of, results_of, answered, left_waiting, applied_content, applied_entry, apply_next, apply_times, execute, query, apply}
 use Rattle.rq_node.specs.Sound.{most_bytes}
 use Rattle.rq_node.specs.Files.{first_persistent}
 use Rattle.rq_script.specs.ScriptLine.{Line, Skip, Cluster as ClusterLine, At, Elect, Apply, Execute, Query, Stop, StopWithin, Start, Show, line_of}
@@ -61,7 +61,7 @@ entry_opens lost n (Some entry) = of_content entry.content
   where
     of_content : (c : Content) → Opens (lost ++ numbers n.waiting) (at_place (n.applied + 1) (applied_content n (n.applied + 1) c).answers) (lost ++ numbers (applied_content n (n.applied + 1) c).node.waiting)
     of_content content.NoOp = refl
-    of_content (content.Execute items) = answered_opens lost (n.applied + 1) (n.applied + 1) ((executed n.database items).1) n.waiting
+    of_content (content.Execute items) = answered_opens lost (n.applied + 1) (n.applied + 1) (results_of (run n.replica (command_of (content.Execute items))).1) n.waiting
 
 applying_opens : (k : ℕ) (lost : List ℕ) (turn : Turn) → Opens (lost ++ numbers turn.node.waiting) (applying k turn.node) (lost ++ numbers (apply_times k turn).node.waiting)
 unfolding apply_times applying
@@ -206,7 +206,7 @@ line_opens c (At id Elect) items course = server_opens c id (λ s. Some (happens
 line_opens c (At id Apply) items course =
     server_opens c id (λ s. Some (happens_at course s apply [])) (λ o. applying_at (option_and_then (λ (s : Server). node_at s.stand) o)) (apply_opens course)
 line_opens c (At id (Execute body)) items course = asked_opens c course id body (λ number read n. execute n number read) items (Write items) (λ n. execute_turn n (c.asks + 1) items)
-line_opens c (At id (Query body)) items course = asked_opens c course id body (λ number read n. query n number read) items (Read items) (λ n. says_now (Results (answers n.database items)) refl)
+line_opens c (At id (Query body)) items course = asked_opens c course id body (λ number read n. query n number read) items (Read items) (λ n. says_now (Results (answer n.replica items)) refl)
 line_opens c (At id Stop) items course = server_opens c id stops (λ _. []) stop_opens
 line_opens c (At id (StopWithin calls pick)) items course = server_opens c id (arms calls pick) (λ _. []) (arm_opens calls pick)
 line_opens c (At id Start) items course = server_opens c id (starts course) (λ _. []) (start_opens course)

@@ -8,7 +8,7 @@ use Rattle.rq_statement.specs.declared.res.Res.{Res}
 use Rattle.rq_request.specs.declared.say.Say.{Say}
 use Rattle.rq_request.specs.declared.say.Say.TheVariants.{Results, Queued, Loaded, Backup, Nodes, Ready, Changed, Moved, Refused}
 use Rattle.rq_request.specs.declared.say.NodeRefusal.TheVariants.{NoLeader, EntryTooLarge}
-use Rattle.rq_engine.specs.Meaning.{executed, answers}
+use Rattle.rq_engine.specs.Fold.{run, answer}
 use Rattle.rq_statement.specs.Bytes.{execute_bytes}
 use Rattle.rq_json.specs.Body.{texts_of}
 use Rattle.rq_node.specs.declared.log_entry.LogEntry.{LogEntry}
@@ -17,7 +17,7 @@ use Rattle.rq_node.specs.declared.log_entry.Content.TheVariants as content
 use Rattle.rq_node.specs.declared.waiting.Waiting.{Waiting}
 use Rattle.rq_node.specs.Sound.{most_bytes}
 use Rattle.rq_node.specs.Node.{Node, Persistent, StoredRecord, Turn, persistent_after, unchanged, says}
-use Rattle.rq_node.specs.Rules.{is_leader, entry_in, risen, led, elect, waits, taken_up, execute_sized, execute, query, applied_content, applied_entry, apply_next, apply_times, apply}
+use Rattle.rq_node.specs.Rules.{is_leader, entry_in, risen, led, elect, waits, taken_up, execute_sized, execute, query, command_of, results_of, ran, applied_content, applied_entry, apply_next, apply_times, apply}
 use Rattle.rq_node.specs.Files.{first_persistent}
 use Rattle.rq_script.specs.ScriptLine.{Line, Skip, Cluster as ClusterLine, At, Elect, Apply, Execute, Query, Stop, StopWithin, Start, Show, line_of}
 use Rattle.rq_script.specs.Cluster.{Stand, Running, Down, Server, Cluster, Written, new_server, Fault, NoFault, Reading, Storing, Course, Fate, Done, Struck, Failed, fate, ended, happens, happens_at, opens, starts, stops, arms, shown, at_server, event_at, ask_at, founded, done, step}
@@ -79,14 +79,14 @@ climbs_both book (Answered number say place ∷ one) two low mid high first seco
     at on true (less, rest) = (less, on place rest)
     at on false rest = on low rest
 
-pub climbs_more : (chosen : List LogEntry) (book more notes : List Note) (low high : ℕ) → AllRight chosen book notes → Climbs book low notes high → Climbs (book ++ more) low notes high
-climbs_more chosen book more [] low high right climbs = climbs
-climbs_more chosen book more (Asked number op ∷ notes) low high (first, rest) climbs = climbs_more chosen book more notes low high rest climbs
-climbs_more chosen book more (Answered number say place ∷ notes) low high (first, rest) climbs =
-    let op = right_op chosen (op_of book number) say place first in
+pub climbs_more : (ids : List (List ℕ)) (chosen : List LogEntry) (book more notes : List Note) (low high : ℕ) → AllRight ids chosen book notes → Climbs book low notes high → Climbs (book ++ more) low notes high
+climbs_more ids chosen book more [] low high right climbs = climbs
+climbs_more ids chosen book more (Asked number op ∷ notes) low high (first, rest) climbs = climbs_more ids chosen book more notes low high rest climbs
+climbs_more ids chosen book more (Answered number say place ∷ notes) low high (first, rest) climbs =
+    let op = right_op ids chosen (op_of book number) say place first in
     let same : op_of (book ++ more) number ≡ op_of book number = op_kept book more number op.0 op.1 ∙ sym op.1 in
     subst (λ (o : Option Op). Behind (λ (mark : ℕ). Climbs (book ++ more) mark notes high) low place (counts o say)) (sym same)
-    (at (λ start behind. climbs_more chosen book more notes start high rest behind) (counts (op_of book number) say) climbs)
+    (at (λ start behind. climbs_more ids chosen book more notes start high rest behind) (counts (op_of book number) say) climbs)
   where
     at : ((start : ℕ) → Climbs book start notes high → Climbs (book ++ more) start notes high) → (b : Bool) → Behind (λ (mark : ℕ). Climbs book mark notes high) low place b
         → Behind (λ (mark : ℕ). Climbs (book ++ more) mark notes high) low place b
@@ -169,9 +169,9 @@ module _ (book : List Note) (low most : ℕ) (n : Node) (within : low ≤ most) 
     where
       turn : Bool → Turn
       turn b = record {
-        node = record n { applied = n.applied + 1; database = (executed n.database items).0; waiting = if b then ws else w ∷ ws };
+        node = record (ran n (n.applied + 1) (content.Execute items)) { waiting = if b then ws else w ∷ ws };
         records = [];
-        answers = if b then record { number = w.number; say = Results (executed n.database items).1 } ∷ [] else [];
+        answers = if b then record { number = w.number; say = Results (results_of (run n.replica (command_of (content.Execute items))).1) } ∷ [] else [];
       }
 
       counted : (b : Bool) → low < n.applied + 1 → Behind (λ (mark : ℕ). mark ≤ n.applied + 1) low (n.applied + 1) b
@@ -266,7 +266,7 @@ module _ (h : History) (low : ℕ) (within : low ≤ length h.chosen) where
       (ended_above low (fate course s.armed (elect n).records) course (record s { stand = Running n }) n (elect n) [] (elect_rises low n above))
   elect_climbs course s (Down kept rest) above = unmoved (Some (happens_at course (record s { stand = Down kept rest }) elect []).0) tt
 
-  apply_climbs : (course : Course) (s : Server) (stand : Stand) → Fits h.chosen h.book stand → Above low stand
+  apply_climbs : (course : Course) (s : Server) (stand : Stand) → Fits (s.id ∷ []) h.chosen h.book stand → Above low stand
       → ActClimbs (applying_at (node_at stand)) (Some (happens_at course (record s { stand = stand }) apply []))
   apply_climbs course s (Down kept rest) fits above = unmoved (Some (happens_at course (record s { stand = Down kept rest }) apply []).0) tt
   apply_climbs course s (Running n) fits above =
@@ -326,9 +326,9 @@ module _ (h : History) (low : ℕ) (within : low ≤ length h.chosen) where
   query_climbs : (course : Course) (s : Server) (n : Node) (number : ℕ) (items : List Item) → op_of h.book number ≡ None → Rises low n.waiting (length n.log)
       → Asks course s n number (Read items) (query n number items)
   query_climbs course s n number items fresh rises =
-      let answer = Answered number (Results (answers n.database items)) n.applied ∷ [] in
-      says_climbs course s n number (Read items) (Results (answers n.database items))
-      (ap is_write (op_behind h.book (Asked number (Read items) ∷ answer) number fresh ∙ same_number number (Read items) answer)) rises
+      let noted = Answered number (Results (answer n.replica items)) n.applied ∷ [] in
+      says_climbs course s n number (Read items) (Results (answer n.replica items))
+      (ap is_write (op_behind h.book (Asked number (Read items) ∷ noted) number fresh ∙ same_number number (Read items) noted)) rises
 
   -- ---- at the server that is there
 
@@ -345,7 +345,7 @@ module _ (h : History) (low : ℕ) (within : low ≤ length h.chosen) where
       by false = tt
 
   server_climbs : (c : Cluster) (id : List ℕ) (act : Server → Option (Server × List ℕ)) (noted : Option Server → List Note) → FitsAt h.chosen h.book c.server → AboveAt low c.server
-      → ((s : Server) (stand : Stand) → Fits h.chosen h.book stand → Above low stand → ActClimbs (noted (Some (record s { stand = stand }))) (act (record s { stand = stand })))
+      → ((s : Server) (stand : Stand) → Fits (s.id ∷ []) h.chosen h.book stand → Above low stand → ActClimbs (noted (Some (record s { stand = stand }))) (act (record s { stand = stand })))
       → MayClimb (noted c.server) (at_server c id act)
   server_climbs c id act noted fits above climbed = at c.server fits above
     where
@@ -358,7 +358,7 @@ module _ (h : History) (low : ℕ) (within : low ≤ length h.chosen) where
       → MayClimb (asking course c.server (c.asks + 1) op (rule (c.asks + 1) items)) (ask_at course c id rule items body)
   asked_climbs c course id body rule items op fits above asks = by (texts_of body)
     where
-      at : (s : Server) (stand : Stand) → Fits h.chosen h.book stand → Above low stand
+      at : (s : Server) (stand : Stand) → Fits (s.id ∷ []) h.chosen h.book stand → Above low stand
           → ActClimbs (asking course (Some (record s { stand = stand })) (c.asks + 1) op (rule (c.asks + 1) items))
           (Some (happens_at course (record s { stand = stand }) (rule (c.asks + 1) items) ((c.asks + 1) ∷ [])))
       at s (Running n) fit over = asks (record s { stand = Running n }) n over
@@ -381,20 +381,20 @@ module _ (h : History) (low : ℕ) (within : low ≤ length h.chosen) where
   found_climbs c course id fits = at c.server fits
     where
       at : (o : Option Server) → FitsAt h.chosen h.book o → MayClimb [] (founded course (record c { server = o }) id)
-      at None none = opens_climbs course (new_server id) first_persistent [] course.fault (λ stands. (let empty = ap length none in omega (arith, empty, within)))
+      at None none = opens_climbs course (new_server id) first_persistent [] course.fault (λ stands. (let empty = ap length none.0 in omega (arith, empty, within)))
       at (Some s) fit = tt
 
-  start_climbs : (course : Course) (s : Server) (stand : Stand) → Fits h.chosen h.book stand → Above low stand → ActClimbs [] (starts course (record s { stand = stand }))
+  start_climbs : (course : Course) (s : Server) (stand : Stand) → Fits (s.id ∷ []) h.chosen h.book stand → Above low stand → ActClimbs [] (starts course (record s { stand = stand }))
   start_climbs course s (Running n) fits above = tt
   start_climbs course s (Down kept rest) fits above =
       opens_climbs course s kept rest course.fault
       (λ stands. (let covers = begins_length h.chosen (persistent_after kept (take stands rest)).log (fits stands) in omega (arith, covers, within)))
 
-  stop_climbs : (s : Server) (stand : Stand) → Fits h.chosen h.book stand → Above low stand → ActClimbs [] (stops (record s { stand = stand }))
+  stop_climbs : (s : Server) (stand : Stand) → Fits (s.id ∷ []) h.chosen h.book stand → Above low stand → ActClimbs [] (stops (record s { stand = stand }))
   stop_climbs s (Running n) fits above = record { mark = low; climbs = omega arith; within = within; above = tt }
   stop_climbs s (Down kept rest) fits above = tt
 
-  arm_climbs : (calls pick : ℕ) (s : Server) (stand : Stand) → Fits h.chosen h.book stand → Above low stand → ActClimbs [] (arms calls pick (record s { stand = stand }))
+  arm_climbs : (calls pick : ℕ) (s : Server) (stand : Stand) → Fits (s.id ∷ []) h.chosen h.book stand → Above low stand → ActClimbs [] (arms calls pick (record s { stand = stand }))
   arm_climbs calls pick s (Running n) fits above = record { mark = low; climbs = omega arith; within = within; above = above }
   arm_climbs calls pick s (Down kept rest) fits above = tt
 

@@ -1,10 +1,11 @@
--- Prefixes of lists, and what a log makes of a database.
+-- Prefixes of lists, and the fold of a log.
 use Rattle.std.proofs.Common.{◌≡◌, ◌<◌, ◌≤◌, ℕ, zero, suc, ◌+◌, List, [], ◌∷◌, ◌++◌, length, take, drop, slice_get, nat_lt, Bool, true, false, if◌then◌else◌, Option, Some, None, refl, sym, ◌∙◌, ap, subst, append_assoc, arith}
 use Rattle.std.proofs.lemmas.List.{append-nil, take-append-drop, take-append-le, length-append, length-take-le}
-use Rattle.rq_engine.specs.Database.{Database}
+use Rattle.rq_statement.specs.declared.command.Command.{Command}
+use Rattle.rq_engine.specs.Fold.{State, run, after}
 use Rattle.rq_node.specs.declared.log_entry.LogEntry.{LogEntry}
 use Rattle.rq_script.specs.History.{longer}
-use Rattle.rq_script.specs.Promise.{Begins, database_after, replayed}
+use Rattle.rq_script.specs.Promise.{Begins}
 
 module _ {T : Type 0} where
   pub begins_same : (xs : List T) → Begins xs xs
@@ -89,6 +90,6 @@ longest prefix n log begins le = at (nat_lt (length prefix) (length (take n log)
         of_longer prefix (ap (λ (t : Bool). if t then take n log else prefix) ge)
         (begins_same prefix) begins (omega (arith, most, count))
 
-pub replayed_on : (database : Database) (a b : List LogEntry) → replayed database (a ++ b) ≡ replayed (replayed database a) b
-replayed_on database [] b = refl
-replayed_on database (entry ∷ a) b = replayed_on (database_after database entry.content) a b
+pub after_both : (s : State) (one two : List Command) → after s (one ++ two) ≡ after (after s one) two
+after_both s [] two = refl
+after_both s (command ∷ one) two = after_both (run s command).0 one two

@@ -1,12 +1,12 @@
 -- Every run keeps what it promises, and its history only grows.
-use Rattle.std.proofs.Common.{◌≡◌, ◌≤◌, ℕ, List, ◌++◌, length, Option, Some, None, refl, sym, subst, arith}
+use Rattle.std.proofs.Common.{◌≡◌, ◌≤◌, ℕ, List, [], ◌∷◌, ◌++◌, length, Option, Some, None, refl, sym, subst, arith}
 use Rattle.std.specs.Prelude.{option_and_then, ⊤}
 use Rattle.rq_statement.specs.declared.item.Item.{Item}
 use Rattle.rq_node.specs.declared.log_entry.LogEntry.{LogEntry}
 use Rattle.rq_node.specs.Node.{Node}
 use Rattle.rq_script.specs.Lines.{Line, IsWithin}
 use Rattle.rq_script.specs.ScriptLine.{Line as Command, line_of}
-use Rattle.rq_script.specs.Cluster.{Stand, Running, Down, Server, Cluster, Course, Steps, done, step}
+use Rattle.rq_script.specs.Cluster.{Stand, Running, Down, Server, Cluster, Course, Steps, first_ids, done, step}
 use Rattle.rq_script.specs.Runs.{Runs}
 use Rattle.rq_script.specs.History.{History, node_at, node_in, notes_of, chosen_with, history}
 use Rattle.rq_script.specs.Promise.{Begins, IsReplica, IsKept, Keeps, Grows}
@@ -25,7 +25,7 @@ step_good h c bytes items course sound = at (line_of bytes)
 
 pub moment : {lines : List Line} {text : List ℕ} {c : Cluster} (run : Runs lines text c) → Sound (history run) c
 unfolding history
-moment Runs.start = record { fits = refl; right = tt; fresh = λ _ _. refl }
+moment Runs.start = record { fits = (refl, refl); right = tt; fresh = λ _ _. refl }
 moment (Runs.line {c} l more next run within (way, is)) =
     (subst (MayGo (history run) (notes_of c (line_of l.text) way.items way.course)) is
     (step_good (history run) c l.text way.items way.course (moment run))).0
@@ -57,40 +57,40 @@ placed (Runs.line {c} l more next run within (way, is)) =
     let most : behind.mark ≤ length h.chosen = behind.within in
     record {
       mark = behind.mark;
-      climbs = climbs_both (h.book ++ noted) h.book noted 0 before.mark behind.mark (climbs_more h.chosen h.book noted h.book 0 before.mark (moment run).right before.climbs) behind.climbs;
+      climbs = climbs_both (h.book ++ noted) h.book noted 0 before.mark behind.mark (climbs_more (first_ids c.server) h.chosen h.book noted h.book 0 before.mark (moment run).right before.climbs) behind.climbs;
       within = omega (arith, longer, most);
       above = behind.above;
     }
 
 -- what fits a server is what each moment promises
-fit : (h : History) (o : Option Server) → FitsAt h.chosen h.book o → (n : Node) → option_and_then (λ (s : Server). node_at s.stand) o ≡ Some n → IsReplica h.chosen n
+fit : (h : History) (o : Option Server) → FitsAt h.chosen h.book o → (n : Node) → option_and_then (λ (s : Server). node_at s.stand) o ≡ Some n → IsReplica (first_ids o) h.chosen n
 fit h None fits n is = absurd (cc)
 fit h (Some s) fits n is = at s.stand fits is
   where
-    replica_of : (m : Node) → Stands h.chosen h.book m → m.commit ≤ length h.chosen → IsReplica h.chosen m
+    replica_of : (m : Node) → Stands (s.id ∷ []) h.chosen h.book m → m.commit ≤ length h.chosen → IsReplica (s.id ∷ []) h.chosen m
     replica_of m stands covers =
         let was_within : m.applied ≤ m.commit = stands.within in
         record {
           applied = subst (λ (l : List LogEntry). Begins l h.chosen) (sym (begins_take_same h.chosen m.log m.applied stands.grown (omega (arith, was_within, covers)))) (begins_take m.applied h.chosen);
           committed = subst (λ (l : List LogEntry). Begins l h.chosen) (sym (begins_take_same h.chosen m.log m.commit stands.grown covers)) (begins_take m.commit h.chosen);
-          database = stands.database;
+          folds = stands.folds;
         }
 
     ReplicaIn : Option Node → Type 0
     ReplicaIn None = ⊤
-    ReplicaIn (Some m) = IsReplica h.chosen m
+    ReplicaIn (Some m) = IsReplica (s.id ∷ []) h.chosen m
 
-    at : (stand : Stand) → Fits h.chosen h.book stand → node_at stand ≡ Some n → IsReplica h.chosen n
+    at : (stand : Stand) → Fits (s.id ∷ []) h.chosen h.book stand → node_at stand ≡ Some n → IsReplica (s.id ∷ []) h.chosen n
     at (Running m) (stands, covers) runs = subst ReplicaIn runs (replica_of m stands covers)
     at (Down kept rest) safe runs = absurd (cc)
 
-pub promised : {lines : List Line} {text : List ℕ} {c : Cluster} (run : Runs lines text c) → Keeps (history run) (node_in c)
+pub promised : {lines : List Line} {text : List ℕ} {c : Cluster} (run : Runs lines text c) → Keeps (first_ids c.server) (history run) (node_in c)
 promised {lines} {text} {c} run =
     let sound = moment run in
     let places = placed run in
     record {
       replicas = λ n is. fit (history run) c.server sound.fits n is;
-      right = λ k number say place is. subst (RightNote (history run).chosen (history run).book) is (all_get (history run).chosen (history run).book (history run).book k sound.right);
+      right = λ k number say place is. subst (RightNote (first_ids c.server) (history run).chosen (history run).book) is (all_get (first_ids c.server) (history run).chosen (history run).book (history run).book k sound.right);
       apart = λ j k number other place results more items items' one two asked asked'.
           climbs_apart (history run).book (history run).book 0 places.mark j k number other place results more items items' places.climbs one two asked asked';
     }
@@ -99,6 +99,6 @@ promised {lines} {text} {c} run =
 pub kept : {lines : List Line} {text : List ℕ} {c : Cluster} (run : Runs lines text c) (s : Server) → c.server ≡ Some s → IsKept (history run).chosen s.stand
 kept {lines} {text} {c} run s is = at s.stand (subst (FitsAt (history run).chosen (history run).book) is (moment run).fits)
   where
-    at : (stand : Stand) → Fits (history run).chosen (history run).book stand → IsKept (history run).chosen stand
+    at : (stand : Stand) → Fits (s.id ∷ []) (history run).chosen (history run).book stand → IsKept (history run).chosen stand
     at (Running n) (stands, covers) = stands.grown
     at (Down held rest) safe = safe

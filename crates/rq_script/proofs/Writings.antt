@@ -6,7 +6,7 @@ use Rattle.std.proofs.lemmas.List.{append-nil}
 use Rattle.rq_statement.specs.declared.item.Item.{Item}
 use Rattle.rq_request.specs.declared.say.Say.TheVariants.{Results}
 use Rattle.rq_request.specs.declared.say.Answer.{Answer}
-use Rattle.rq_engine.specs.Meaning.{answers}
+use Rattle.rq_engine.specs.Fold.{answer}
 use Rattle.rq_json.specs.Body.{texts_of}
 use Rattle.rq_node.specs.Node.{Node, Persistent, StoredRecord, Turn, persistent_after, unchanged}
 use Rattle.rq_node.specs.Rules.{is_leader, led, elect, applied_entry, apply_next, apply_times, execute, query, apply, started}
@@ -224,12 +224,12 @@ query_sees c course (Some s) number list k asked results place items is op = at 
     at (Running n) zero is op = absurd (cc)
     at (Running n) (suc (suc k)) is op = absurd (cc)
     at (Running n) (suc zero) is op =
-        let answer : Some (Answered number (Results (answers n.database list)) n.applied) ≡ Some (Answered asked (Results results) place) = is in
+        let noted : Some (Answered number (Results (answer n.replica list)) n.applied) ≡ Some (Answered asked (Results results) place) = is in
         let numbers : number ≡ asked = cc in
-        let lists : Read list ≡ Read items = same_op number asked (Read list) (Read items) (Answered number (Results (answers n.database list)) n.applied ∷ []) numbers op in
+        let lists : Read list ≡ Read items = same_op number asked (Read list) (Read items) (Answered number (Results (answer n.replica list)) n.applied ∷ []) numbers op in
         let same : list ≡ items = cc in
-        let given : answers n.database list ≡ results = cc in
-        record { node = n; runs = refl; sees = cc; outcome = sym given ∙ ap (answers n.database) same }
+        let given : answer n.replica list ≡ results = cc in
+        record { node = n; runs = refl; sees = cc; outcome = sym given ∙ ap (answer n.replica) same }
 
 write_sees : (c : Cluster) (course : Course) (o : Option Server) (number : ℕ) (list : List Item) (rule : Node → Turn) → ReadsSeeApplied c (asking course o number (Write list) rule)
 write_sees c course None number list rule k asked results place items is op = absurd (write_reads_nothing number asked list items [] refl op)

@@ -39,6 +39,11 @@ pub record Cluster : Type 0 where
 abbrev pub first_cluster : Cluster
 first_cluster = record { server = None; asks = 0 }
 
+-- the ids of the servers in the first configuration, from which each replica starts
+abbrev pub first_ids : Option Server → List (List ℕ)
+first_ids None = []
+first_ids (Some s) = s.id ∷ []
+
 -- a server of that name, whose files are new
 abbrev pub new_server : List ℕ → Server
 new_server id = record { id = id; stand = Down first_persistent []; armed = None; lost = []; failures = 0 }

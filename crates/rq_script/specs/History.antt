@@ -15,7 +15,7 @@ pub data Op : Type 0 where
   Write : (items : List Item) → Op
   Read : (items : List Item) → Op
 
--- an ask was put to a node, or it was answered at a place: the index of its entry, or how many entries the database had that was read
+-- an ask was put to a node, or it was answered at a place: the index of its entry, or how many entries the replica had applied that was read
 pub data Note : Type 0 where
   Asked : (number : ℕ) (op : Op) → Note
   Answered : (number : ℕ) (say : Say) (place : ℕ) → Note

@@ -1,5 +1,6 @@
 -- The lines of a script, and their limits, as docs/SCRIPT.md has them, "Lines".
 use Rattle.std.specs.Prelude.{if◌then◌else◌, ◌<◌, ◌≤◌, ◌⊎◌, ◌+◌, ℕ, List, [], ◌∷◌, ◌++◌, length, nat_eq}
+use Rattle.rq_values.specs.declared.limits.TheConstants.{MAX_LINE, MAX_SCRIPT}
 
 -- a line without its end, and the number of bytes of the script up to its end
 pub record Line : Type 0 where
@@ -35,9 +36,9 @@ whole_lines bytes = lines_by (λ _ _. []) 0 [] bytes
 
 -- longer than a line may be, or ends behind the longest script
 abbrev pub IsOver : Line → Type 0
-IsOver line = (2097152 < length line.text) ⊎ (67108864 < line.upto)
+IsOver line = (MAX_LINE < length line.text) ⊎ (MAX_SCRIPT < line.upto)
 
 -- within both limits
 pub record IsWithin (line : Line) : Type 0 where
-  pub line_fits : length line.text ≤ 2097152
-  pub script_fits : line.upto ≤ 67108864
+  pub line_fits : length line.text ≤ MAX_LINE
+  pub script_fits : line.upto ≤ MAX_SCRIPT

@@ -4,7 +4,7 @@ use Rattle.rq_statement.specs.declared.item.Item.{Item}
 use Rattle.rq_statement.specs.declared.res.Res.{Res}
 use Rattle.rq_request.specs.declared.say.Say.TheVariants.{Results}
 use Rattle.rq_request.specs.declared.say.Answer.{Answer}
-use Rattle.rq_engine.specs.Meaning.{answers}
+use Rattle.rq_engine.specs.Fold.{answer}
 use Rattle.rq_node.specs.Node.{Node}
 use Rattle.rq_script.specs.ScriptText.{up_text, down_text, answers_text, show_text, show_down_text}
 use Rattle.rq_script.specs.Cluster.{Cluster}
@@ -33,7 +33,7 @@ pub record SeesApplied (c : Cluster) (items : List Item) (results : List Res) (p
   pub node : Node
   pub runs : node_in c ≡ Some node
   pub sees : place ≡ node.applied
-  pub outcome : results ≡ answers node.database items
+  pub outcome : results ≡ answer node.replica items
 
 -- each read that is answered with results among these notes saw all that a node of the cluster had applied
 abbrev pub ReadsSeeApplied : Cluster → List Note → Type 0

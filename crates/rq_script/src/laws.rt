@@ -3,7 +3,7 @@
 ghost use Rattle.std.specs.Prelude.{◌≡◌, [], ℕ, List, Some};
 ghost use Rattle.rq_node.specs.Node.{Node};
 ghost use Rattle.rq_script.specs.Answering.{AppliesAnswerAll};
-ghost use Rattle.rq_script.specs.Cluster.{Server, Cluster, Steps, unanswered};
+ghost use Rattle.rq_script.specs.Cluster.{Server, Cluster, Steps, first_ids, unanswered};
 ghost use Rattle.rq_script.specs.FromAsks.{IsAsked};
 ghost use Rattle.rq_script.specs.History.{history, node_in, notes_of};
 ghost use Rattle.rq_script.specs.Lines.{Line, IsWithin};
@@ -14,12 +14,12 @@ ghost use Rattle.rq_script.specs.Runs.{Runs};
 ghost use Rattle.rq_script.specs.ScriptLine.{line_of};
 ghost use Rattle.rq_script.specs.Writing.{Tells, ReadsSeeApplied};
 
-/// At each moment of a run, a running node's database is the fold of a prefix of the one log, and each answer that was given is
+/// At each moment of a run, a running node's replica is the fold of a prefix of the one log, and each answer that was given is
 /// right: a write has a place of its own in that log, which no other write's answer has, and the answer is its entry's outcome
 /// there; a read is answered from the fold of a prefix.
 #[tactic(auto, using(crate::proofs::Promises::promised))]
 pub fn each_moment_is_kept()
-    ensures { (lines : List Line) (text : List ℕ) (c : Cluster) (run : Runs lines text c) → Keeps (history run) (node_in c) }
+    ensures { (lines : List Line) (text : List ℕ) (c : Cluster) (run : Runs lines text c) → Keeps (first_ids c.server) (history run) (node_in c) }
 {}
 
 /// From one moment to the next the one log and the book of what happened only grow.
@@ -39,7 +39,7 @@ pub fn answers_are_noted()
     ensures { (c : Cluster) (bytes text : List ℕ) (next : Cluster) (steps : Steps c bytes text next) → Tells text (notes_of c (line_of bytes) steps.0.items steps.0.course) }
 {}
 
-/// Each read that a line answers with results is answered from the database of a node, and sees all that this node had applied.
+/// Each read that a line answers with results is answered from the replica of a node, and sees all that this node had applied.
 pub fn reads_see_what_was_applied()
     ensures { (c : Cluster) (bytes text : List ℕ) (next : Cluster) (steps : Steps c bytes text next) → ReadsSeeApplied c (notes_of c (line_of bytes) steps.0.items steps.0.course) }
 {}

@@ -26,7 +26,7 @@ pub enum Action<'a> {
     Apply,
     /// A list of statements to be executed, as a JSON list of strings.
     Execute { body: &'a [u8] },
-    /// A list of queries that the node answers from its own database.
+    /// A list of queries that the node answers from its own replica.
     Query { body: &'a [u8] },
     /// The node stops at once.
     Stop,

@@ -1,13 +1,14 @@
 //! Applying what is committed: docs/RAFT.md, "Apply".
 ghost use Rattle.std.specs.Prelude.{◌≡◌, ◌<◌, ◌+◌, ◌++◌, slice_get, IfOk, OnOk};
-ghost use Rattle.rq_engine.specs.Meaning.{executed};
-ghost use Rattle.rq_node.specs.Events.{IsKept};
-ghost use Rattle.rq_node.specs.Rules.{apply, applied_entry, answered, left_waiting};
+ghost use Rattle.rq_engine.specs.Fold.{run};
+ghost use Rattle.rq_node.specs.declared.log_entry.Content.TheVariants.{Execute};
+ghost use Rattle.rq_node.specs.Events.{KeepsPersistent};
+ghost use Rattle.rq_node.specs.Rules.{apply, applied_entry, answered, command_of, left_waiting, results_of};
 
 use super::State;
 use crate::log_entry::Content;
 use crate::waiting::Waiting;
-use rq_engine::Tables;
+use rq_engine::Replica;
 use rq_request::{Answer, Say};
 use rq_statement::{Item, Res};
 use rq_values::{NoMemory, Seq};
@@ -20,7 +21,7 @@ impl State {
     pub(super) fn apply(&mut self, alloc: Global) -> Result<Seq<Answer>, NoMemory>
         ensures node { OnOk result (self.new ≡ (apply self.old).node) }
         ensures answers { IfOk result (λ answers. answers ≡ (apply self.old).answers) }
-        ensures kept { IsKept self.old self.new }
+        ensures kept { KeepsPersistent self.old self.new }
     {
         let mut answers = Seq::new(alloc);
         while self.applied < self.commit {
@@ -34,7 +35,7 @@ impl State {
         requires { self.old.applied < self.old.commit }
         ensures node { OnOk result (self.new ≡ (applied_entry self.old (slice_get self.old.log self.old.applied)).node) }
         ensures answers { OnOk result (answers.new ≡ answers.old ++ (applied_entry self.old (slice_get self.old.log self.old.applied)).answers) }
-        ensures kept { IsKept self.old self.new }
+        ensures kept { KeepsPersistent self.old self.new }
     {
         let index = self.applied + 1;
         match &self.log[self.applied as usize].content {
@@ -43,7 +44,7 @@ impl State {
                 Ok(())
             }
             Content::Execute(items) => {
-                let results = run_list(&mut self.tables, alloc, items.as_slice())?;
+                let results = run_list(&mut self.replica, alloc, items.as_slice())?;
                 self.applied = index;
                 answer_first(&mut self.waiting, index, results, answers)?;
                 Ok(())
@@ -52,14 +53,13 @@ impl State {
     }
 }
 
-/// Runs a list on the tables.
+/// Runs a list on the replica.
 #[tactic(auto, using(crate::proofs::NodeSteps::first_part, crate::proofs::NodeSteps::second_part))]
-fn run_list(tables: &mut Tables, alloc: Global, items: &[Item]) -> Result<Seq<Res>, NoMemory>
-    ensures database { OnOk result (tables.new ≡ (executed tables.old items.now).0) }
-    ensures results { IfOk result (λ results. results ≡ (executed tables.old items.now).1) }
+fn run_list(replica: &mut Replica, alloc: Global, items: &[Item]) -> Result<Seq<Res>, NoMemory>
+    ensures replica { OnOk result (replica.new ≡ (run replica.old (command_of (Execute items.now))).0) }
+    ensures results { IfOk result (λ results. results ≡ results_of (run replica.old (command_of (Execute items.now))).1) }
 {
-    let results = tables.apply(alloc, items)?;
-    Ok(results)
+    replica.execute(alloc, items)
 }
 
 /// Answers the first ask that waits, where it waits for this index.

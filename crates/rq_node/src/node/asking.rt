@@ -1,8 +1,7 @@
 //! Asks: docs/RAFT.md, "Ask".
-ghost use Rattle.std.specs.Prelude.{◌≡◌, ◌∷◌, ◌≤◌, ◌*◌, [], length, Some, All, IfOk, OnOk, OnErr, IsErrOf, MatchOption, nat_lt};
+ghost use Rattle.std.specs.Prelude.{◌≡◌, ◌∷◌, ◌≤◌, ◌*◌, [], length, Some, IfOk, OnOk, OnErr, IsErrOf, MatchOption, nat_lt};
 ghost use Rattle.rq_outside.specs.Pair.{arm_of, UsedCalls};
 ghost use Rattle.rq_values.specs.Exact.{AreBytes};
-ghost use Rattle.rq_engine.specs.Meaning.{answers};
 ghost use Rattle.rq_statement.specs.Bytes.{execute_bytes};
 ghost use Rattle.rq_request.specs.declared.say.Say.TheVariants.{Results};
 ghost use Rattle.rq_wal.specs.Calls.{PassesMost};
@@ -11,7 +10,7 @@ ghost use Rattle.rq_node.specs.declared.turn_error.TurnError.TheVariants.{Disk a
 ghost use Rattle.rq_node.specs.Node.{persistent_of, says};
 ghost use Rattle.rq_node.specs.Events.{Brings};
 ghost use Rattle.rq_node.specs.Rules.{execute, execute_sized, query, taken_up};
-ghost use Rattle.rq_node.specs.Sound.{IsReadable, most_bytes};
+ghost use Rattle.rq_node.specs.Sound.{most_bytes};
 ghost use Rattle.rq_node.specs.Recovery.{IsOpen, IsBroken, Moments};
 
 use super::{Node, State, splice_of, store};
@@ -20,19 +19,16 @@ use crate::log_entry::{Content, LogEntry};
 use crate::role::Role;
 use crate::turn_error::TurnError;
 use crate::waiting::Waiting;
-use rq_statement::encode_execute;
+use rq_command::items_can_be_read;
 use rq_outside::{Disk, DiskPair};
 use rq_request::{NodeRefusal, Say};
-use rq_statement::Item;
-use rq_values::{Bytes, NoMemory, Seq};
+use rq_statement::{Item, encode_execute};
+use rq_values::{Bytes, MAX_COMMAND, NoMemory, Seq};
 use rq_wire::Body;
 use std::alloc::Global;
 
-/// The most bytes that the command of an entry may have.
-pub(crate) const MOST_BYTES: usize = 8_388_608;
-
 impl State {
-    /// Answers queries from the node's own database.
+    /// Answers queries from the node's own replica.
     pub(super) fn query(
         &self,
         alloc: Global,
@@ -41,7 +37,7 @@ impl State {
     ) -> Result<Effects, NoMemory>
         ensures effects { IfOk result (Brings (query self.now number items.now)) }
     {
-        let results = self.tables.query(alloc, items)?;
+        let results = self.replica.query(alloc, items)?;
         Effects::says(alloc, number, Say::Results(results))
     }
 }
@@ -73,7 +69,6 @@ impl Node {
         items: Seq<Item>,
     ) -> Result<Effects, TurnError>
         requires open { IsOpen D.told D.means disks.old self.old }
-        requires readable { All IsReadable items }
         ensures effects { IfOk result (Brings (execute self.old.state number items)) }
         ensures ok { OnOk result (self.new.state ≡ (execute self.old.state number items).node) }
         ensures open { OnOk result (IsOpen D.told D.means disks.new self.new) }
@@ -84,6 +79,7 @@ impl Node {
         ensures err { OnErr result (self.new.state ≡ self.old.state) }
         ensures no_memory { IsErrOf result OutOfMemory → IsOpen D.told D.means disks.new self.new }
         ensures no_memory_arm { IsErrOf result OutOfMemory → arm_of disks.new ≡ arm_of disks.old }
+        ensures still { (execute self.old.state number items).records ≡ [] → disks.new ≡ disks.old }
         ensures later { Later D.means disks.old disks.new }
     {
         let term = self.state.term;
@@ -92,7 +88,7 @@ impl Node {
             return Ok(Effects::says(alloc, number, Say::Refused(refusal))?);
         }
         let command = command_of(alloc, &items)?;
-        if command.len() > MOST_BYTES {
+        if command.len() > MAX_COMMAND as usize {
             let refusal = NodeRefusal::EntryTooLarge(command.len() as u64);
             return Ok(Effects::says(alloc, number, Say::Refused(refusal))?);
         }
@@ -111,7 +107,6 @@ impl Node {
         command: Bytes,
     ) -> Result<(), TurnError>
         requires open { IsOpen D.told D.means disks.old self.old }
-        requires readable { All IsReadable items }
         requires spelled { command ≡ execute_bytes items }
         requires fits { length command ≤ most_bytes }
         requires bytes { AreBytes command }
@@ -126,6 +121,7 @@ impl Node {
         ensures no_memory_arm { IsErrOf result OutOfMemory → arm_of disks.new ≡ arm_of disks.old }
         ensures later { Later D.means disks.old disks.new }
     {
+        items_can_be_read(items.as_slice());
         let state = &mut self.state;
         let index = state.next_index()?;
         let term = state.term;

@@ -41,6 +41,7 @@ impl Node {
         ensures err { OnErr result (self.new.state ≡ self.old.state) }
         ensures no_memory { IsErrOf result OutOfMemory → IsOpen D.told D.means disks.new self.new }
         ensures no_memory_arm { IsErrOf result OutOfMemory → arm_of disks.new ≡ arm_of disks.old }
+        ensures still { (elect self.old.state).records ≡ [] → disks.new ≡ disks.old }
         ensures later { Later D.means disks.old disks.new }
     {
         if self.state.role == Role::Leader || self.state.term == u64::MAX {

@@ -28,14 +28,15 @@ ghost use Rattle.rq_node.specs.Recovery.{HasFile, IsOpen, IsSomeOf, Stands, CanB
 use super::{Node, State, store};
 use crate::error::NodeError;
 use crate::log_entry::{Content, LogEntry};
-use crate::node::asking::MOST_BYTES;
 use crate::role::Role;
 use crate::turn_error::TurnError;
 use rq_command::decode_execute;
-use rq_engine::Tables;
+use rq_engine::Replica;
 use rq_outside::{Disk, DiskPair};
 use rq_statement::Item;
-use rq_values::{Addr, Bytes, DecodeError, Id, NoMemory, Seq, put_bytes, put_u8, put_u32};
+use rq_values::{
+    Addr, Bytes, DecodeError, Id, MAX_COMMAND, NoMemory, Seq, put_bytes, put_u8, put_u32,
+};
 use rq_wal::{Base, Frame, OpenError, Stored, WalFile, current_logs_stand, open};
 use rq_wire::{Body, Config, Entry, Member};
 use std::alloc::Global;
@@ -123,6 +124,7 @@ fn started_state(alloc: Global, id: Id, stored: Stored) -> Result<State, NodeErr
         return Err(NodeError::Ended(stored.boot));
     }
     let log = log_of(alloc, stored.entries.as_slice())?;
+    let replica = Replica::first(alloc, &[id])?;
     Ok(State {
         id,
         term: stored.term,
@@ -133,7 +135,7 @@ fn started_state(alloc: Global, id: Id, stored: Stored) -> Result<State, NodeErr
         applied: 0,
         role: Role::Follower,
         waiting: VecDeque::new(alloc),
-        tables: Tables::new(alloc),
+        replica,
     })
 }
 
@@ -225,7 +227,7 @@ fn list_of(alloc: Global, index: u64, command: &[u8]) -> Result<Seq<Item>, NodeE
     ensures refused { (items : List TheItem) → IsPersistentReadable (Execute items) → command.now ≡ execute_bytes items → IfErr result (λ e. e ≡ OutOfMemory) }
     ensures wrong { IfErr result (λ e. (e ≡ OutOfMemory) ⊎ ((error : TheError) × (e ≡ Command index error) × IsNoCommand command.now error)) }
 {
-    if command.len() > MOST_BYTES {
+    if command.len() > MAX_COMMAND as usize {
         let len = u32::try_from(command.len()).unwrap_or(u32::MAX);
         return Err(NodeError::Command {
             index,

@@ -1,11 +1,13 @@
 use Rattle.std.proofs.Common.{◌≡◌, ◌<◌, ◌≤◌, ◌+◌, ◌^◌, ◌∷◌, ◌++◌, [], ◌∙◌, ℕ, List, length, sym, ap, subst, arith}
+use Rattle.std.specs.Prelude.{All}
 use Rattle.rq_values.specs.Exact.{AreBytes}
+use Rattle.rq_statement.specs.declared.item.Item.{Item}
 use Rattle.rq_node.specs.contracts.node.State.{the_view}
 use Rattle.rq_node.specs.declared.log_entry.LogEntry.{LogEntry}
 use Rattle.rq_node.specs.declared.log_entry.Content.TheVariants.{Execute}
 use Rattle.rq_node.specs.Node.{Node, Persistent, Splice, persistent_of}
 use Rattle.rq_node.specs.Rules.{taken_up, entry_in}
-use Rattle.rq_node.specs.Sound.{AreReadable, most_bytes}
+use Rattle.rq_node.specs.Sound.{AreReadable, IsReadable, most_bytes}
 use Rattle.rq_node.specs.Recovery.{HasFile, IsBroken, Moments}
 use Rattle.rq_node.proofs.Allowed.{taken_allowed}
 use Rattle.rq_node.proofs.Persistent.{kept_taken, taken_frames}
@@ -43,7 +45,7 @@ invariant_of-state-2 g c =
     record {
       applied_within = omega (arith, at, c.state.invariant.applied_within, c.state.invariant.commit_within);
       commit_within = omega (arith, size, at);
-      readable = subst AreReadable (sym grown) (readable_more v.log (record { term = v.term; content = Execute c.args.items }) c.state.invariant.readable (c.requires.readable, subst (λ (l : List ℕ). length l ≤ most_bytes) c.requires.spelled c.requires.fits));
+      readable = subst AreReadable (sym grown) (readable_more v.log (record { term = v.term; content = Execute c.args.items }) c.state.invariant.readable (subst (λ (l : List Item). All IsReadable l) c.as_slice.ensures c.items_can_be_read.ensures, subst (λ (l : List ℕ). length l ≤ most_bytes) c.requires.spelled c.requires.fits));
     }
 
 pub returns-clause-open : goal.returns-clause-open

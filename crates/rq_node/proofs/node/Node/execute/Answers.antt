@@ -1,4 +1,4 @@
-use Rattle.std.proofs.Common.{rules, ◌≡◌, sym, subst}
+use Rattle.std.proofs.Common.{rules, ◌≡◌, ◌∙◌, [], sym, ap, subst}
 use Rattle.rq_node.specs.Node.{Turn, persistent_of}
 use Rattle.rq_node.specs.Rules.{execute, taken_up}
 use Rattle.rq_node.specs.Recovery.{Moments}
@@ -13,3 +13,15 @@ pub returns-clause-moments : goal.returns-clause-moments
 returns-clause-moments g c =
     let same : execute c.args.self.now.state c.args.number c.args.items ≡ taken_up c.args.self.now.state c.args.number c.args.items = search rules in
     subst (λ (t : Turn). Moments g.D.Disk.told g.D.Disk.means c.args.disks.now c.append.new.disks c.args.self.now.state.id (persistent_of c.args.self.now.state) t.records) (sym same) c.append.ensures.moments
+
+pub returns-in_err-append-clause-still : goal.returns-in_err-append-clause-still
+returns-in_err-append-clause-still g c = λ none.
+    let same : execute c.args.self.now.state c.args.number c.args.items ≡ taken_up c.args.self.now.state c.args.number c.args.items = search rules in
+    let stored : (taken_up c.args.self.now.state c.args.number c.args.items).records ≡ [] = ap (λ (t : Turn). t.records) (sym same) ∙ none in
+    absurd (cc)
+
+pub returns-clause-still : goal.returns-clause-still
+returns-clause-still g c = λ none.
+    let same : execute c.args.self.now.state c.args.number c.args.items ≡ taken_up c.args.self.now.state c.args.number c.args.items = search rules in
+    let stored : (taken_up c.args.self.now.state c.args.number c.args.items).records ≡ [] = ap (λ (t : Turn). t.records) (sym same) ∙ none in
+    absurd (cc)

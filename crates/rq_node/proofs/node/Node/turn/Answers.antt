@@ -1,6 +1,6 @@
 use Rattle.std.proofs.Common.{sym, subst}
 use Rattle.rq_node.specs.declared.event.Event.{Event}
-use Rattle.rq_node.specs.Events.{rule, IsEventReadable}
+use Rattle.rq_node.specs.Events.{rule}
 use Rattle.rq_node.specs.Node.{persistent_of}
 use Rattle.rq_node.specs.Recovery.{Moments}
 use Rattle.rq_node.proofs.node.Node.turn.Goals as goal
@@ -14,6 +14,3 @@ pub returns-in-Elect-clause-moments : goal.returns-in-Elect-clause-moments
 returns-in-Elect-clause-moments g c =
     let n = c.args.self.now.state in
     subst (λ (e : Event). Moments g.D.Disk.told g.D.Disk.means c.args.disks.now c.elect.new.disks n.id (persistent_of n) (rule e n).records) (sym c.in-Elect.is) c.elect.ensures.moments
-
-pub execute-requires-clause-readable : goal.execute-requires-clause-readable
-execute-requires-clause-readable g c κs within = subst IsEventReadable c.in-Execute.is c.know_event.ensures

@@ -9,7 +9,7 @@ pub returns-in-Err-clause-refused : goal.returns-in-Err-clause-refused
 returns-in-Err-clause-refused c = λ items readable is. c.no_command.ensures.no_memory (the_error c.decode_execute.result c.in-Err.error items c.in-Err.is (c.decode_execute.ensures.complete items is (command_is items readable)))
 
 pub returns-in-Ok-clause-readable : goal.returns-in-Ok-clause-readable
-returns-in-Ok-clause-readable c = readable_is c.args.command.now c.in-Ok.items c.in-Ok.ensures.ok.0 c.if-command-gt-MOST_BYTES.false c.in-Ok.ensures.ok.1
+returns-in-Ok-clause-readable c = readable_is c.args.command.now c.in-Ok.items c.in-Ok.ensures.ok.0 c.if-command.false c.in-Ok.ensures.ok.1
 
 pub returns-in-Err-clause-wrong : goal.returns-in-Err-clause-wrong
 returns-in-Err-clause-wrong c = no_command c.args.command.now c.args.index c.decode_execute.result c.in-Err.error c.no_command.result c.decode_execute.ensures.answer c.in-Err.is c.no_command.ensures.told

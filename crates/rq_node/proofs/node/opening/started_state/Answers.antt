@@ -18,7 +18,7 @@ returns-clause-from c =
         applied = 0;
         role = Follower;
         waiting = c.new.ensures.items i;
-        database = c.new-2.ensures i;
+        replica = c.in_ok-replica.ensures i;
       }),
       λ base. λ i. record { base = base i; term = stored.term; vote = stored.vote; boot = stored.boot; entries = entries i },
       c.in_ok-log.ensures.readable,
