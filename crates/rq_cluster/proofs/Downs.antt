@@ -16,7 +16,7 @@ use Rattle.rq_node.specs.declared.node.Node.{Node as RunningNode}
 use Rattle.rq_node.specs.declared.log_entry.LogEntry.{LogEntry}
 use Rattle.rq_node.specs.declared.event.Event.{Event}
 use Rattle.rq_node.specs.declared.event.Event.TheVariants as event
-use Rattle.rq_node.specs.Events.{IsKept, IsLeft}
+use Rattle.rq_node.specs.Events.{KeepsPersistent, IsLeft}
 use Rattle.rq_node.specs.Files.{first_base, stored_of}
 use Rattle.rq_node.specs.Node.{Node, Persistent, StoredRecord, Vote, Splice, Boot, Turn, persistent_of, persistent_with, persistent_after}
 use Rattle.rq_node.specs.Sound.{AreReadable, IsPersistentReadable}
@@ -26,7 +26,7 @@ use Rattle.rq_script.specs.ScriptText.{down_text}
 use Rattle.rq_cluster.specs.Acting.{Act, event as event_act, Crashed, HasStruck}
 use Rattle.rq_cluster.specs.declared.arming.Arming.{Arming}
 use Rattle.rq_cluster.specs.declared.host.Host.{Host}
-use Rattle.rq_cluster.specs.Refines.{ShowsServer, ShowsStand, IsArmed, LetsPass, Goes, armed_of}
+use Rattle.rq_cluster.specs.Refines.{RefinesServer, RefinesStand, IsArmed, LetsPass, Goes, armed_of}
 use Rattle.rq_cluster.specs.Recovery.{Rises, StandsAs, ServerStands}
 use Rattle.rq_cluster.proofs.Pairs.{LogsStand, open_stands, SameDisks, NoFewer, fewer_same, rises_on, rises_more, stands_same}
 use Rattle.rq_cluster.proofs.Results.{on_ok_map}
@@ -94,17 +94,17 @@ module _ {D F : Type 0} (told : Bool) (means : D → DiskMeaning) where
     pub rises : Rises told means failures start new
     pub arm : arm_of new ≡ Struck → ⊥
 
-  -- and so the host shows it
+  -- and so the host refines it
   pub down_goes : (start new : DiskPair D F) (act : Act) (s : Server) (from to : Host) (waiting before text : List ℕ) (failures : ℕ)
       → IsTrue told → GoesDown start new act s waiting failures → s.id ≡ from.id → s.lost ≡ from.lost.items → to.id ≡ from.id → to.node ≡ None → to.armed ≡ None → to.lost.items ≡ from.lost.items ++ waiting
       → to.failures ≡ failures → text ≡ before ++ down_text from.id
-      → (course : Course) × ShowsServer told means start new to (act course s).0 × (text ≡ before ++ (act course s).1)
+      → (course : Course) × RefinesServer told means start new to (act course s).0 × (text ≡ before ++ (act course s).1)
   down_goes start new act s from to waiting before text failures tells g is_id is_lost id node armed lost failed text_is =
-      let there : ShowsStand told means new g.next.id to.node g.next.stand =
-      subst (λ (o : Option RunningNode). ShowsStand told means new g.next.id o g.next.stand) (sym node)
-      (subst (λ (st : Stand). ShowsStand told means new g.next.id None st) (sym g.stand)
+      let there : RefinesStand told means new g.next.id to.node g.next.stand =
+      subst (λ (o : Option RunningNode). RefinesStand told means new g.next.id o g.next.stand) (sym node)
+      (subst (λ (st : Stand). RefinesStand told means new g.next.id None st) (sym g.stand)
       (subst (λ (i : List ℕ). Stands told means new i g.kept g.rest) (sym g.id) g.stands, g.readable)) in
-      let shows : ShowsServer told means start new to g.next = record {
+      let refines : RefinesServer told means start new to g.next = record {
         tells = tells;
         id = g.id ∙ is_id ∙ sym id;
         lost = g.lost ∙ ap (λ (l : List ℕ). l ++ waiting) is_lost ∙ sym lost;
@@ -115,9 +115,9 @@ module _ {D F : Type 0} (told : Bool) (means : D → DiskMeaning) where
         stand = there;
         spent = λ _. g.armed;
       } in
-      let so : ShowsServer told means start new to (act g.course s).0 × (text ≡ before ++ (act g.course s).1) =
-      subst (λ (t : Server × List ℕ). ShowsServer told means start new to t.0 × (text ≡ before ++ t.1)) (sym g.is)
-      (shows, text_is ∙ ap (λ (i : List ℕ). before ++ down_text i) (sym is_id)) in
+      let so : RefinesServer told means start new to (act g.course s).0 × (text ≡ before ++ (act g.course s).1) =
+      subst (λ (t : Server × List ℕ). RefinesServer told means start new to t.0 × (text ≡ before ++ t.1)) (sym g.is)
+      (refines, text_is ∙ ap (λ (i : List ℕ). before ++ down_text i) (sym is_id)) in
       (g.course, so.0, so.1)
 
   -- where want of memory came behind it
@@ -134,7 +134,7 @@ module _ {D F : Type 0} (told : Bool) (means : D → DiskMeaning) where
 
   -- ---- a turn that was broken off
 
-  module _ (start old : DiskPair D F) (from : Host) (s : Server) (shows : ShowsServer told means start old from s)
+  module _ (start old : DiskPair D F) (from : Host) (s : Server) (refines : RefinesServer told means start old from s)
       (mid broke new : DiskPair D F) (node : RunningNode) (rule : Node → Turn) (asked : List ℕ)
       (same : SameDisks old mid) (lets : LetsPass told means mid s.armed) (later : NoFewer told means mid broke)
       (runs : from.node ≡ Some node) (small : length (rule node.state).records ≤ 2)
@@ -142,13 +142,13 @@ module _ {D F : Type 0} (told : Bool) (means : D → DiskMeaning) where
       (readable : CanBeRead (persistent_of node.state) (rule node.state).records)
       (crashed : HasStruck (arm_of broke) from.armed → Crashed told means broke new) (untouched : (HasStruck (arm_of broke) from.armed → ⊥) → new ≡ broke) where
     was : Rises told means s.failures start mid
-    was = rises_on told means s.failures start old mid shows.rises (fewer_same told means old mid same)
+    was = rises_on told means s.failures start old mid refines.rises (fewer_same told means old mid same)
 
     -- a disk has failed
     has_failed : (HasStruck (arm_of broke) from.armed → ⊥) → (arm_of broke ≡ Struck → ⊥) → DeviceRose means mid broke
         → GoesDown start new (event_act rule asked) s (numbers node.state.waiting ++ asked) (s.failures + 1)
     has_failed not_struck no_stop device =
-        let shown = node_shown told means start old from s shows node runs in
+        let shown = node_shown told means start old from s refines node runs in
         let n = shown.n in
         let turn : rule node.state ≡ rule n = ap rule shown.state in
         let same_pair = untouched not_struck in
@@ -175,7 +175,7 @@ module _ {D F : Type 0} (told : Bool) (means : D → DiskMeaning) where
     has_struck : (a : Armed) → s.armed ≡ Some a → HasStruck (arm_of broke) from.armed → arm_of broke ≡ Struck
         → GoesDown start new (event_act rule asked) s (numbers node.state.waiting ++ asked) s.failures
     has_struck a is struck stopped =
-        let shown = node_shown told means start old from s shows node runs in
+        let shown = node_shown told means start old from s refines node runs in
         let n = shown.n in
         let turn : rule node.state ≡ rule n = ap rule shown.state in
         let crash = crashed struck in
@@ -185,7 +185,7 @@ module _ {D F : Type 0} (told : Bool) (means : D → DiskMeaning) where
         let blocked : passes s.armed (needed (rule n).records) ≡ false = ap (λ (o : Option Armed). passes o (needed (rule n).records)) is ∙ not_le in
         let stood = subst (λ (i : List ℕ). Stands told means broke i (persistent_of n) (rule n).records) shown.named
         (subst (λ (m : Node). Stands told means broke m.id (persistent_of m) (rule m).records) shown.state broken.stands) in
-        let settle = settled broke new s.id (persistent_of n) (rule n).records shows.tells crash stood in
+        let settle = settled broke new s.id (persistent_of n) (rule n).records refines.tells crash stood in
         let reads = subst (λ (m : Node). CanBeRead (persistent_of m) (rule m).records) shown.state readable in
         record {
           course = striking settle.0;
@@ -235,12 +235,12 @@ module _ {D F : Type 0} (told : Bool) (means : D → DiskMeaning) where
 
         by : (o : Option Arming) → from.armed ≡ o → (m : Arm) → arm_of broke ≡ m → Fell
         by None none m is =
-            let line : s.armed ≡ None = shows.armed ∙ ap armed_of none in
+            let line : s.armed ≡ None = refines.armed ∙ ap armed_of none in
             let never : HasStruck (arm_of broke) from.armed → ⊥ = subst (λ (o : Option Arming). HasStruck (arm_of broke) o → ⊥) (sym none) (λ nothing. nothing) in
             inr (never, has_failed never (no_line line) (device_of (no_line line)))
         by (Some a) some Struck is =
             let struck : HasStruck (arm_of broke) from.armed = subst (λ (o : Option Arming). HasStruck (arm_of broke) o) (sym some) is in
-            inl (struck, has_struck (record { calls = a.calls; pick = a.pick }) (shows.armed ∙ ap armed_of some) struck is)
+            inl (struck, has_struck (record { calls = a.calls; pick = a.pick }) (refines.armed ∙ ap armed_of some) struck is)
         by (Some a) some Off is = let free : arm_of broke ≡ Struck → ⊥ = λ e. (let f : Off ≡ Struck = sym is ∙ e in absurd (cc)) in others a some free
         by (Some a) some (Passes k) is = let free : arm_of broke ≡ Struck → ⊥ = λ e. (let f : Passes k ≡ Struck = sym is ∙ e in absurd (cc)) in others a some free
 
@@ -251,11 +251,11 @@ module _ {D F : Type 0} (told : Bool) (means : D → DiskMeaning) where
         × (HasStruck (arm_of broke) from.armed → OnOk r (to.failures ≡ from.failures)) × ((HasStruck (arm_of broke) from.armed → ⊥) → OnOk r (to.failures ≡ from.failures + 1))
 
     pub fell_goes : {T E : Type 0} (r : Result T E) (to : Host) (before text : List ℕ) → Told r to before text
-        → OnOk r ((course : Course) × ShowsServer told means start new to (event_act rule asked course s).0 × (text ≡ before ++ (event_act rule asked course s).1))
+        → OnOk r ((course : Course) × RefinesServer told means start new to (event_act rule asked course s).0 × (text ≡ before ++ (event_act rule asked course s).1))
     fell_goes {T} {E} r to before text t = by fell
       where
         Goal : Type 0
-        Goal = (course : Course) × ShowsServer told means start new to (event_act rule asked course s).0 × (text ≡ before ++ (event_act rule asked course s).1)
+        Goal = (course : Course) × RefinesServer told means start new to (event_act rule asked course s).0 × (text ≡ before ++ (event_act rule asked course s).1)
 
         waiting : List ℕ
         waiting = numbers node.state.waiting ++ asked
@@ -264,14 +264,14 @@ module _ {D F : Type 0} (told : Bool) (means : D → DiskMeaning) where
         finish failures g counted = at r t.0 t.1 t.2 t.3 t.4 counted
           where
             at : (r : Result T E) → OnOk r (to.id ≡ from.id) → OnOk r (to.node ≡ None) → OnOk r (to.armed ≡ None) → OnOk r (to.lost.items ≡ from.lost.items ++ waiting) → OnOk r (text ≡ before ++ down_text from.id) → OnOk r (to.failures ≡ failures) → OnOk r Goal
-            at (Ok x) id none armed lost text_is failed = down_goes start new (event_act rule asked) s from to waiting before text failures shows.tells g shows.id shows.lost id none armed lost failed text_is
+            at (Ok x) id none armed lost text_is failed = down_goes start new (event_act rule asked) s from to waiting before text failures refines.tells g refines.id refines.lost id none armed lost failed text_is
             at (Err e) id none armed lost text_is failed = tt
 
         counts : (k : ℕ) → OnOk r (to.failures ≡ from.failures + k) → OnOk r (to.failures ≡ s.failures + k)
-        counts k holds = on_ok_map r (to.failures ≡ from.failures + k) (to.failures ≡ s.failures + k) (λ e. e ∙ ap (λ (n : ℕ). n + k) (sym shows.failures)) holds
+        counts k holds = on_ok_map r (to.failures ≡ from.failures + k) (to.failures ≡ s.failures + k) (λ e. e ∙ ap (λ (n : ℕ). n + k) (sym refines.failures)) holds
 
         by : Fell → OnOk r Goal
-        by (inl (struck, g)) = finish s.failures g (on_ok_map r (to.failures ≡ from.failures) (to.failures ≡ s.failures) (λ e. e ∙ sym shows.failures) (t.5 struck))
+        by (inl (struck, g)) = finish s.failures g (on_ok_map r (to.failures ≡ from.failures) (to.failures ≡ s.failures) (λ e. e ∙ sym refines.failures) (t.5 struck))
         by (inr (never, g)) = finish (s.failures + 1) g (counts 1 (t.6 never))
 
     pub fell_breaks : (reached : Server) × ((reached ≡ s) ⊎ ((course : Course) × (reached ≡ (event_act rule asked course s).0))) × ServerStands told means start new (Some reached)
@@ -284,25 +284,25 @@ module _ {D F : Type 0} (told : Bool) (means : D → DiskMeaning) where
   -- ---- for every start
 
   pub goes_of : {T E : Type 0} (r : Result T E) (act : Act) (old new : DiskPair D F) (from to : Host) (before after : List ℕ)
-      → ((start : DiskPair D F) (s : Server) → ShowsServer told means start old from s → OnOk r ((course : Course) × ShowsServer told means start new to (act course s).0 × (after ≡ before ++ (act course s).1)))
+      → ((start : DiskPair D F) (s : Server) → RefinesServer told means start old from s → OnOk r ((course : Course) × RefinesServer told means start new to (act course s).0 × (after ≡ before ++ (act course s).1)))
       → OnOk r (Goes told means act old new from to before after)
   goes_of {T} {E} r act old new from to before after all = by r all
     where
-      by : (r : Result T E) → ((start : DiskPair D F) (s : Server) → ShowsServer told means start old from s → OnOk r ((course : Course) × ShowsServer told means start new to (act course s).0 × (after ≡ before ++ (act course s).1)))
+      by : (r : Result T E) → ((start : DiskPair D F) (s : Server) → RefinesServer told means start old from s → OnOk r ((course : Course) × RefinesServer told means start new to (act course s).0 × (after ≡ before ++ (act course s).1)))
           → OnOk r (Goes told means act old new from to before after)
       by (Ok x) all = all
       by (Err e) all = tt
 
   -- a node that keeps what it kept stands for the server as it was
-  pub turn_stands : LogsStand F means → (start old : DiskPair D F) (from : Host) (s : Server) (shows : ShowsServer told means start old from s) (new : DiskPair D F) (node after : RunningNode)
-      → from.node ≡ Some node → IsKept node.state after.state → IsOpen told means new after → NoFewer told means old new → ServerStands told means start new (Some s)
-  turn_stands law start old from s shows new node after runs kept opened later =
-      let shown = node_shown told means start old from s shows node runs in
+  pub turn_stands : LogsStand F means → (start old : DiskPair D F) (from : Host) (s : Server) (refines : RefinesServer told means start old from s) (new : DiskPair D F) (node after : RunningNode)
+      → from.node ≡ Some node → KeepsPersistent node.state after.state → IsOpen told means new after → NoFewer told means old new → ServerStands told means start new (Some s)
+  turn_stands law start old from s refines new node after runs kept opened later =
+      let shown = node_shown told means start old from s refines node runs in
       let stood : Stands told means new s.id (persistent_of shown.n) [] = subst (λ (i : List ℕ). Stands told means new i (persistent_of shown.n) []) shown.named
       (subst (λ (m : Node). Stands told means new m.id (persistent_of m) []) shown.state
       (subst (λ (k : Persistent). Stands told means new node.state.id k []) kept.persistent
       (subst (λ (i : List ℕ). Stands told means new i (persistent_of after.state) []) kept.id (open_stands told means law new after opened)))) in
-      (subst (λ (st : Stand). StandsAs told means new s.id st) (sym shown.stand) stood, rises_on told means s.failures start old new shows.rises later)
+      (subst (λ (st : Stand). StandsAs told means new s.id st) (sym shown.stand) stood, rises_on told means s.failures start old new refines.rises later)
 
   -- only the arming has changed
   pub server_same : (start old new : DiskPair D F) (s : Server) → SameDisks old new → ServerStands told means start old (Some s) → ServerStands told means start new (Some s)
@@ -313,7 +313,7 @@ module _ {D F : Type 0} (told : Bool) (means : D → DiskMeaning) where
       by (Down kept rest) there = stands_same told means old new s.id kept rest same there
 
 -- what want of memory leaves keeps what the node kept
-pub left_kept : (e : Event) (old new : Node) → IsLeft e old new → IsKept old new
+pub left_kept : (e : Event) (old new : Node) → IsLeft e old new → KeepsPersistent old new
 left_kept (event.Execute number items) old new is = record { id = ap (λ (n : Node). n.id) is; persistent = ap persistent_of is }
 left_kept (event.Query number items) old new is = record { id = ap (λ (n : Node). n.id) is; persistent = ap persistent_of is }
 left_kept event.Elect old new is = record { id = ap (λ (n : Node). n.id) is; persistent = ap persistent_of is }

@@ -8,9 +8,9 @@ mod Lists
 mod Pairs
 mod Pieces
 mod Readings
+mod Refining
 mod Results
 mod Servers
-mod Showing
 mod Starts
 mod Turns
 mod Whole

@@ -10,7 +10,7 @@ use Rattle.rq_cluster.specs.declared.progress.Progress.{Progress}
 use Rattle.rq_cluster.specs.declared.world.World.{World}
 use Rattle.rq_cluster.specs.Outcome.{Took, BrokenOff}
 use Rattle.rq_cluster.specs.Feed.{After, IsAfter, PartOf, StopsKept, GoesOn, Stopped}
-use Rattle.rq_cluster.specs.Refines.{Shows}
+use Rattle.rq_cluster.specs.Refines.{Refines}
 use Rattle.rq_cluster.specs.Recovery.{Holds}
 use Rattle.rq_cluster.proofs.Cutting.{line_out, line_done, line_broken, broken_before}
 
@@ -49,9 +49,9 @@ module _ {D F : Type 0} (tells : Bool) (means : D → DiskMeaning) where
   pub goes_held : (pairs : List (DiskPair D F)) (told : Bool) (t0 : List ℕ) (a b : Progress) (bytes : List ℕ) → b.world ≡ a.world
       → ((read text : List ℕ) (c : Cluster) → After read text c a.number a.held.items a.read → After (read ++ bytes) text c b.number b.held.items b.read)
       → GoesOn tells means pairs pairs told t0 t0 a b bytes
-  goes_held pairs told t0 a b bytes same on start read text (c, after, shows) =
+  goes_held pairs told t0 a b bytes same on start read text (c, after, refines) =
       unwritten told t0 t0 (λ (t : List ℕ). IsAfter tells means start pairs (read ++ bytes) t b) text (λ t. refl)
-      (c, on read text c after, subst (λ (w : World). Shows tells means start pairs w c) (sym same) shows)
+      (c, on read text c after, subst (λ (w : World). Refines tells means start pairs w c) (sym same) refines)
 
   -- one piece after another
   module _ (p0 p1 p2 : List (DiskPair D F)) (told : Bool) (t0 t1 t2 : List ℕ) (a b : Progress) where
@@ -78,7 +78,7 @@ module _ {D F : Type 0} (tells : Bool) (means : D → DiskMeaning) where
 
   -- the script is broken off before a line, whatever follows
   pub broken_after : (p0 p1 : List (DiskPair D F)) (told : Bool) (t0 t1 : List ℕ) (a b : Progress) (piece rest : List ℕ)
-      → ((start : List (DiskPair D F)) (c : Cluster) → Shows tells means start p1 b.world c → Holds tells means start p1 c) → GoesOn tells means p0 p1 told t0 t1 a b piece
+      → ((start : List (DiskPair D F)) (c : Cluster) → Refines tells means start p1 b.world c → Holds tells means start p1 c) → GoesOn tells means p0 p1 told t0 t1 a b piece
       → Stopped tells means p0 p1 told t0 t1 a (piece ++ rest) (Broken p1)
   broken_after p0 p1 told t0 t1 a b piece rest kept goes start read text s =
       let f = goes start read text s in (

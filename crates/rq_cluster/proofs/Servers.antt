@@ -20,7 +20,7 @@ use Rattle.rq_cluster.specs.Acting.{Act, event, turn, start as start_act, stop a
 use Rattle.rq_cluster.specs.Events.{Puts, PutsNothing}
 use Rattle.rq_cluster.specs.declared.host.Host.{Host}
 use Rattle.rq_cluster.specs.declared.world.World.{World}
-use Rattle.rq_cluster.specs.Refines.{ShowsServer, ShowsStand, ShowsHost, ShowsCluster, Goes, BreaksOff, Leads, DoesLine, BreaksLine, IsOutsideHere, with_host}
+use Rattle.rq_cluster.specs.Refines.{RefinesServer, RefinesStand, RefinesHost, RefinesCluster, Goes, BreaksOff, Leads, DoesLine, BreaksLine, IsOutsideHere, with_host}
 use Rattle.rq_cluster.specs.Recovery.{ServerStands}
 use Rattle.rq_cluster.proofs.Turns.{node_shown, down_shown}
 
@@ -138,23 +138,23 @@ abbrev next_ask : ℕ → ℕ
 next_ask k = k + 1
 
 module _ {D F : Type 0} (told : Bool) (means : D → DiskMeaning) where
-  -- the server that the world's host shows
+  -- the server that the world's host refines
   record IsServer (start pair : DiskPair D F) (host : Host) (c : Cluster) : Type 0 where
     s : Server
     there : c.server ≡ Some s
-    shows : ShowsServer told means start pair host s
+    refines : RefinesServer told means start pair host s
 
-  server_shown : (start pair : DiskPair D F) (world : World) (host : Host) (c : Cluster) → world.host ≡ Some host → ShowsCluster told means start pair world c → IsServer start pair host c
-  server_shown start pair world host c is shown = by c.server refl (subst (λ (o : Option Host). ShowsHost told means start pair o c.server) is shown.1)
+  server_shown : (start pair : DiskPair D F) (world : World) (host : Host) (c : Cluster) → world.host ≡ Some host → RefinesCluster told means start pair world c → IsServer start pair host c
+  server_shown start pair world host c is shown = by c.server refl (subst (λ (o : Option Host). RefinesHost told means start pair o c.server) is shown.1)
     where
-      by : (o : Option Server) → c.server ≡ o → ShowsHost told means start pair (Some host) o → IsServer start pair host c
-      by (Some s) there shows = record { s = s; there = there; shows = shows }
+      by : (o : Option Server) → c.server ≡ o → RefinesHost told means start pair (Some host) o → IsServer start pair host c
+      by (Some s) there refines = record { s = s; there = there; refines = refines }
       by None there nothing = absurd nothing
 
   -- the line does this at the server of the host
   pub record IsDone (line : Line) (act : Act) (items : List Item) (asks : ℕ → ℕ) (old : DiskPair D F) (from : World) (host : Host) : Type 0 where
     pub read : AreRead (statements line) items
-    pub does : (start : DiskPair D F) (c : Cluster) (s : Server) (course : Course) → c.server ≡ Some s → ShowsServer told means start old host s → c.asks ≡ from.asks
+    pub does : (start : DiskPair D F) (c : Cluster) (s : Server) (course : Course) → c.server ≡ Some s → RefinesServer told means start old host s → c.asks ≡ from.asks
         → done items course c line ≡ Some (record c { server = Some (act course s).0; asks = asks c.asks }, (act course s).1)
 
   module _ (line : Line) (act : Act) (items : List Item) (asks : ℕ → ℕ) (old new : DiskPair D F) (from : World) (host : Host)
@@ -163,19 +163,19 @@ module _ {D F : Type 0} (told : Bool) (means : D → DiskMeaning) where
         → DoesLine told means line old new from to before text
     line_does to after before text there counts goes start c shown =
         let server = server_shown start old from host c is shown in
-        let went = goes start server.s server.shows in
+        let went = goes start server.s server.refines in
         let next : Cluster = record c { server = Some (act went.0 server.s).0; asks = asks c.asks } in (
           next,
           (act went.0 server.s).1,
-          (items, went.0, d.read, d.does start c server.s went.0 server.there server.shows shown.0),
+          (items, went.0, d.read, d.does start c server.s went.0 server.there server.refines shown.0),
           went.2,
-          (ap asks shown.0 ∙ sym counts, subst (λ (o : Option Host). ShowsHost told means start new o (Some (act went.0 server.s).0)) (sym there) went.1),
+          (ap asks shown.0 ∙ sym counts, subst (λ (o : Option Host). RefinesHost told means start new o (Some (act went.0 server.s).0)) (sym there) went.1),
         )
 
     pub line_breaks : BreaksOff told means act old new host → BreaksLine told means line old new from
     line_breaks off start c shown =
         let server = server_shown start old from host c is shown in
-        let broke = off start server.s server.shows in
+        let broke = off start server.s server.refines in
         by server broke.0 broke.1 broke.2
       where
         by : (server : IsServer start old host c) (reached : Server) → ((reached ≡ server.s) ⊎ ((course : Course) × (reached ≡ (act course server.s).0))) → ServerStands told means start new (Some reached)
@@ -184,60 +184,60 @@ module _ {D F : Type 0} (told : Bool) (means : D → DiskMeaning) where
             (c, inl refl, subst (λ (o : Option Server). ServerStands told means start new o) (ap (λ (r : Server). Some r) same ∙ sym server.there) stands)
         by server reached (inr (course, goes)) stands = (
           record c { server = Some (act course server.s).0; asks = asks c.asks },
-          inr (inr ((act course server.s).1, (items, course, d.read, d.does start c server.s course server.there server.shows shown.0))),
+          inr (inr ((act course server.s).1, (items, course, d.read, d.does start c server.s course server.there server.refines shown.0))),
           subst (λ (r : Server). ServerStands told means start new (Some r)) goes stands,
         )
 
   -- ---- each line
 
   module _ (old : DiskPair D F) (from : World) (host : Host) (id : List ℕ) (same : bytes_eq host.id id ≡ true) where
-    this : (start : DiskPair D F) (s : Server) → ShowsServer told means start old host s → bytes_eq s.id id ≡ true
-    this start s shows = ap (λ (i : List ℕ). bytes_eq i id) shows.id ∙ same
+    this : (start : DiskPair D F) (s : Server) → RefinesServer told means start old host s → bytes_eq s.id id ≡ true
+    this start s refines = ap (λ (i : List ℕ). bytes_eq i id) refines.id ∙ same
 
     pub elect_done : IsDone (At id Elect) (event elect []) [] same_asks old from host
-    elect_done = record { read = tt; does = λ start c s course there shows asks. event_is course c s id elect [] there (this start s shows) }
+    elect_done = record { read = tt; does = λ start c s course there refines asks. event_is course c s id elect [] there (this start s refines) }
 
     pub apply_done : IsDone (At id Apply) (event apply []) [] same_asks old from host
-    apply_done = record { read = tt; does = λ start c s course there shows asks. event_is course c s id apply [] there (this start s shows) }
+    apply_done = record { read = tt; does = λ start c s course there refines asks. event_is course c s id apply [] there (this start s refines) }
 
     pub show_done : IsDone (At id Show) show_act [] same_asks old from host
-    show_done = record { read = tt; does = λ start c s course there shows asks. at_is c s id (λ t. Some (t, shown t.id t.stand)) (show_act course s) there (this start s shows) refl }
+    show_done = record { read = tt; does = λ start c s course there refines asks. at_is c s id (λ t. Some (t, shown t.id t.stand)) (show_act course s) there (this start s refines) refl }
 
     pub stop_done : is_some host.node ≡ true → IsDone (At id Stop) stop_act [] same_asks old from host
     stop_done running = record {
       read = tt;
-      does = λ start c s course there shows asks.
+      does = λ start c s course there refines asks.
           let node = some_of host.node running in
-          let at = node_shown told means start old host s shows node.0 node.1 in
-          at_is c s id stops (stop_act course s) there (this start s shows) (stop_is course s at.n at.stand);
+          let at = node_shown told means start old host s refines node.0 node.1 in
+          at_is c s id stops (stop_act course s) there (this start s refines) (stop_is course s at.n at.stand);
     }
 
     pub arm_done : (calls pick : ℕ) → is_some host.node ≡ true → IsDone (At id (StopWithin calls pick)) (arm_act calls pick) [] same_asks old from host
     arm_done calls pick running = record {
       read = tt;
-      does = λ start c s course there shows asks.
+      does = λ start c s course there refines asks.
           let node = some_of host.node running in
-          let at = node_shown told means start old host s shows node.0 node.1 in
-          at_is c s id (arms calls pick) (arm_act calls pick course s) there (this start s shows) (arm_is calls pick course s at.n at.stand);
+          let at = node_shown told means start old host s refines node.0 node.1 in
+          at_is c s id (arms calls pick) (arm_act calls pick course s) there (this start s refines) (arm_is calls pick course s at.n at.stand);
     }
 
     pub start_done : is_some host.node ≡ false → IsDone (At id Start) start_act [] same_asks old from host
     start_done down = record {
       read = tt;
-      does = λ start c s course there shows asks.
-          let at = down_shown told means start old host s shows (none_of host.node down) in
-          at_is c s id (starts course) (start_act course s) there (this start s shows) (start_is course s at.kept at.rest at.stand);
+      does = λ start c s course there refines asks.
+          let at = down_shown told means start old host s refines (none_of host.node down) in
+          at_is c s id (starts course) (start_act course s) there (this start s refines) (start_is course s at.kept at.rest at.stand);
     }
 
     module _ (body : List ℕ) (texts : List (List ℕ)) (items : List Item) (number : ℕ) (lists : texts_of body ≡ Some texts) (read : AreRead texts items) (counts : number ≡ from.asks + 1) where
       ask_read : AreRead (listed (texts_of body)) items
       ask_read = subst (λ (o : Option (List (List ℕ))). AreRead (listed o) items) (sym lists) read
 
-      ask_does : (rule : ℕ → List Item → Node → Turn) (start : DiskPair D F) (c : Cluster) (s : Server) (course : Course) → c.server ≡ Some s → ShowsServer told means start old host s → c.asks ≡ from.asks
+      ask_does : (rule : ℕ → List Item → Node → Turn) (start : DiskPair D F) (c : Cluster) (s : Server) (course : Course) → c.server ≡ Some s → RefinesServer told means start old host s → c.asks ≡ from.asks
           → ask_at course c id rule items body ≡ Some (record c { server = Some (event (rule number items) (number ∷ []) course s).0; asks = c.asks + 1 }, (event (rule number items) (number ∷ []) course s).1)
-      ask_does rule start c s course there shows asks =
+      ask_does rule start c s course there refines asks =
           subst (λ (k : ℕ). ask_at course c id rule items body ≡ Some (record c { server = Some (event (rule k items) (k ∷ []) course s).0; asks = c.asks + 1 }, (event (rule k items) (k ∷ []) course s).1))
-          (ap (λ (k : ℕ). k + 1) asks ∙ sym counts) (ask_is course c s id body texts rule items lists there (this start s shows))
+          (ap (λ (k : ℕ). k + 1) asks ∙ sym counts) (ask_is course c s id body texts rule items lists there (this start s refines))
 
       pub execute_done : IsDone (At id (Execute body)) (event (λ n. execute n number items) (number ∷ [])) items next_ask old from host
       execute_done = record { read = ask_read; does = ask_does (λ number read n. execute n number read) }
@@ -246,11 +246,11 @@ module _ {D F : Type 0} (told : Bool) (means : D → DiskMeaning) where
       query_done = record { read = ask_read; does = ask_does (λ number read n. query n number read) }
 
   pub shown_goes : (pair : DiskPair D F) (host : Host) (before text : List ℕ) → ShownAs host before text → Goes told means show_act pair pair host host before text
-  shown_goes pair host before text was start s shows = (whole, shows, was ∙ ap (λ (w : List ℕ). before ++ w) (by host.node s.stand shows.stand))
+  shown_goes pair host before text was start s refines = (whole, refines, was ∙ ap (λ (w : List ℕ). before ++ w) (by host.node s.stand refines.stand))
     where
-      by : (o : Option RunningNode) (st : Stand) → ShowsStand told means pair s.id o st → shown_at host.id o ≡ shown s.id st
+      by : (o : Option RunningNode) (st : Stand) → RefinesStand told means pair s.id o st → shown_at host.id o ≡ shown s.id st
       by (Some node) (Running n) (state, _, _) = ap (λ (m : Node). show_text m) state
-      by None (Down kept rest) _ = ap show_down_text (sym shows.id)
+      by None (Down kept rest) _ = ap show_down_text (sym refines.id)
       by (Some node) (Down kept rest) nothing = absurd nothing
       by None (Running n) nothing = absurd nothing
 
@@ -323,41 +323,41 @@ module _ {D F : Type 0} (told : Bool) (means : D → DiskMeaning) where
     put_outside Start nothing = absurd nothing
     put_outside Show nothing = absurd nothing
 
-    cannot : (a given : Action) → given ≡ a → ((start : DiskPair D F) (c : Cluster) → ShowsCluster told means start old (with_host host asks) c → done [] whole c (At host.id a) ≡ None)
+    cannot : (a given : Action) → given ≡ a → ((start : DiskPair D F) (c : Cluster) → RefinesCluster told means start old (with_host host asks) c → done [] whole c (At host.id a) ≡ None)
         → IsOutsideHere told means (At host.id given) old (with_host host asks)
     cannot a given is outside = subst (λ (b : Action). IsOutsideHere told means (At host.id b) old (with_host host asks)) (sym is) outside
 
     pub stop_outside : (given : Action) → given ≡ Stop → is_some host.node ≡ false → IsOutsideHere told means (At host.id given) old (with_host host asks)
     stop_outside given is down = cannot Stop given is (λ start c shown.
         let server = server_shown start old (with_host host asks) host c refl shown in
-        let at = down_shown told means start old host server.s server.shows (none_of host.node down) in
+        let at = down_shown told means start old host server.s server.refines (none_of host.node down) in
         at_none c server.s host.id stops server.there (ap (λ (st : Stand). stops (record server.s { stand = st })) at.stand))
 
     pub arm_outside : (given : Action) (calls pick : ℕ) → given ≡ StopWithin calls pick → is_some host.node ≡ false → IsOutsideHere told means (At host.id given) old (with_host host asks)
     arm_outside given calls pick is down = cannot (StopWithin calls pick) given is (λ start c shown.
         let server = server_shown start old (with_host host asks) host c refl shown in
-        let at = down_shown told means start old host server.s server.shows (none_of host.node down) in
+        let at = down_shown told means start old host server.s server.refines (none_of host.node down) in
         at_none c server.s host.id (arms calls pick) server.there (ap (λ (st : Stand). arms calls pick (record server.s { stand = st })) at.stand))
 
     pub start_outside : (given : Action) → given ≡ Start → is_some host.node ≡ true → IsOutsideHere told means (At host.id given) old (with_host host asks)
     start_outside given is running = cannot Start given is (λ start c shown.
         let server = server_shown start old (with_host host asks) host c refl shown in
         let node = some_of host.node running in
-        let at = node_shown told means start old host server.s server.shows node.0 node.1 in
+        let at = node_shown told means start old host server.s server.refines node.0 node.1 in
         at_none c server.s host.id (starts whole) server.there (ap (λ (st : Stand). starts whole (record server.s { stand = st })) at.stand))
 
   -- no such server is there
   pub nobody_outside : (id : List ℕ) (a : Action) (old : DiskPair D F) (from : World) → from.host ≡ None → IsOutsideHere told means (At id a) old from
-  nobody_outside id a old from none start c shown = none_at c id a (by c.server refl (subst (λ (o : Option Host). ShowsHost told means start old o c.server) none shown.1))
+  nobody_outside id a old from none start c shown = none_at c id a (by c.server refl (subst (λ (o : Option Host). RefinesHost told means start old o c.server) none shown.1))
     where
-      by : (o : Option Server) → c.server ≡ o → ShowsHost told means start old None o → c.server ≡ None
-      by None there shows = there
+      by : (o : Option Server) → c.server ≡ o → RefinesHost told means start old None o → c.server ≡ None
+      by None there refines = there
       by (Some s) there nothing = absurd nothing
 
   pub other_outside : (id : List ℕ) (a : Action) (old : DiskPair D F) (from : World) (host : Host) → from.host ≡ Some host → bytes_eq host.id id ≡ false → IsOutsideHere told means (At id a) old from
   other_outside id a old from host is other start c shown =
       let server = server_shown start old from host c is shown in
-      other_at c server.s id a server.there (ap (λ (i : List ℕ). bytes_eq i id) server.shows.id ∙ other)
+      other_at c server.s id a server.there (ap (λ (i : List ℕ). bytes_eq i id) server.refines.id ∙ other)
 
   -- a line that is skipped
   pub skips : (pair : DiskPair D F) (world : World) (line : Line) (text : List ℕ) → line ≡ Skip → DoesLine told means line pair pair world world text text

@@ -22,7 +22,7 @@ use Rattle.rq_script.specs.ScriptText.{up_text}
 use Rattle.rq_cluster.specs.Acting.{Act, Crashed, start as start_act, stop as stop_act, arm as arm_act}
 use Rattle.rq_cluster.specs.declared.arming.Arming.{Arming}
 use Rattle.rq_cluster.specs.declared.host.Host.{Host}
-use Rattle.rq_cluster.specs.Refines.{ShowsServer, ShowsStand, IsArmed, LetsPass, armed_of}
+use Rattle.rq_cluster.specs.Refines.{RefinesServer, RefinesStand, IsArmed, LetsPass, armed_of}
 use Rattle.rq_cluster.specs.Recovery.{Rises, StandsAs, ServerStands}
 use Rattle.rq_cluster.proofs.Pairs.{LogsStand, open_stands, SameDisks, NoFewer, fewer_same, rises_on, rises_more, stands_same}
 use Rattle.rq_cluster.proofs.Turns.{IsDown, node_shown, down_shown}
@@ -33,11 +33,11 @@ take_none zero = refl
 take_none (suc k) = refl
 
 module _ {D F : Type 0} (told : Bool) (means : D → DiskMeaning) where
-  -- what a host shows stands in its pair
-  pub shows_stands : LogsStand F means → (start pair : DiskPair D F) (host : Host) (s : Server) → ShowsServer told means start pair host s → ServerStands told means start pair (Some s)
-  shows_stands law start pair host s shows = (by host.node s.stand shows.stand, shows.rises)
+  -- what a host refines stands in its pair
+  pub refines_stands : LogsStand F means → (start pair : DiskPair D F) (host : Host) (s : Server) → RefinesServer told means start pair host s → ServerStands told means start pair (Some s)
+  refines_stands law start pair host s refines = (by host.node s.stand refines.stand, refines.rises)
     where
-      by : (o : Option RunningNode) (st : Stand) → ShowsStand told means pair s.id o st → StandsAs told means pair s.id st
+      by : (o : Option RunningNode) (st : Stand) → RefinesStand told means pair s.id o st → StandsAs told means pair s.id st
       by (Some node) (Running n) (state, named, opened) =
           subst (λ (i : List ℕ). Stands told means pair i (persistent_of n) []) named
           (subst (λ (m : Node). Stands told means pair m.id (persistent_of m) []) state (open_stands told means law pair node opened))
@@ -46,14 +46,14 @@ module _ {D F : Type 0} (told : Bool) (means : D → DiskMeaning) where
       by None (Running n) nothing = absurd nothing
 
   -- nothing has happened
-  pub breaks_before : LogsStand F means → (act : Act) (start pair : DiskPair D F) (host : Host) (s : Server) → ShowsServer told means start pair host s
+  pub breaks_before : LogsStand F means → (act : Act) (start pair : DiskPair D F) (host : Host) (s : Server) → RefinesServer told means start pair host s
       → (reached : Server) × ((reached ≡ s) ⊎ ((course : Course) × (reached ≡ (act course s).0))) × ServerStands told means start pair (Some reached)
-  breaks_before law act start pair host s shows = (s, inl refl, shows_stands law start pair host s shows)
+  breaks_before law act start pair host s refines = (s, inl refl, refines_stands law start pair host s refines)
 
   -- the event was done
-  pub breaks_after : LogsStand F means → (act : Act) (start pair : DiskPair D F) (host : Host) (s : Server) → (course : Course) × ShowsServer told means start pair host (act course s).0
+  pub breaks_after : LogsStand F means → (act : Act) (start pair : DiskPair D F) (host : Host) (s : Server) → (course : Course) × RefinesServer told means start pair host (act course s).0
       → (reached : Server) × ((reached ≡ s) ⊎ ((course : Course) × (reached ≡ (act course s).0))) × ServerStands told means start pair (Some reached)
-  breaks_after law act start pair host s (course, shows) = ((act course s).0, inr (course, refl), shows_stands law start pair host (act course s).0 shows)
+  breaks_after law act start pair host s (course, refines) = ((act course s).0, inr (course, refl), refines_stands law start pair host (act course s).0 refines)
 
   -- ---- starting
 
@@ -64,13 +64,13 @@ module _ {D F : Type 0} (told : Bool) (means : D → DiskMeaning) where
       let q = p (omega (arith, small)) in
       let e : Passes q.0 ≡ Struck = sym q.1 ∙ struck in absurd (cc)
 
-  module _ (start old : DiskPair D F) (from : Host) (s : Server) (shows : ShowsServer told means start old from s) (down : from.node ≡ None)
+  module _ (start old : DiskPair D F) (from : Host) (s : Server) (refines : RefinesServer told means start old from s) (down : from.node ≡ None)
       (mid new : DiskPair D F) (same : SameDisks old mid) (lets : LetsPass told means mid s.armed) (later : NoFewer told means mid new) (most : PassesMost 14 (arm_of mid) (arm_of new)) where
-    pub is_down : IsDown told means start old from s shows
-    is_down = down_shown told means start old from s shows down
+    pub is_down : IsDown told means start old from s refines
+    is_down = down_shown told means start old from s refines down
 
     pub unarmed : s.armed ≡ None
-    unarmed = shows.spent down
+    unarmed = refines.spent down
 
     free : arm_of new ≡ Struck → ⊥
     free = not_stopped mid new 14 (omega arith) (subst (λ (o : Option Armed). LetsPass told means mid o) unarmed lets) most
@@ -79,7 +79,7 @@ module _ {D F : Type 0} (told : Bool) (means : D → DiskMeaning) where
     stood = stands_same told means old mid s.id is_down.kept is_down.rest same is_down.stands
 
     was : Rises told means s.failures start mid
-    was = rises_on told means s.failures start old mid shows.rises (fewer_same told means old mid same)
+    was = rises_on told means s.failures start old mid refines.rises (fewer_same told means old mid same)
 
     abbrev opened_as : Course → Server × List ℕ
     opened_as course = opens course s is_down.kept is_down.rest
@@ -92,25 +92,25 @@ module _ {D F : Type 0} (told : Bool) (means : D → DiskMeaning) where
     -- the node runs
     pub starts_running : (to : Host) (node : RunningNode) (before text : List ℕ) → to.id ≡ from.id → to.lost ≡ from.lost → to.failures ≡ from.failures → to.armed ≡ from.armed → to.node ≡ Some node
         → ((k : ℕ) × (node.state ≡ (started s.id (persistent_after is_down.kept (take k is_down.rest))).node)) → IsOpen told means new node → text ≡ before ++ up_text node.state
-        → (course : Course) × ShowsServer told means start new to (start_act course s).0 × (text ≡ before ++ (start_act course s).1)
+        → (course : Course) × RefinesServer told means start new to (start_act course s).0 × (text ≡ before ++ (start_act course s).1)
     starts_running to node before text id lost failures armed runs (k, state) opened text_is =
         let course : Course = record { fault = NoFault; stands = k } in
         let turn = started s.id (persistent_after is_down.kept (take k is_down.rest)) in
         let next : Server = record s { stand = Running turn.node } in
-        let shows_next : ShowsServer told means start new to next = record {
-          tells = shows.tells;
-          id = shows.id ∙ sym id;
-          lost = shows.lost ∙ ap (λ l. l.items) (sym lost);
-          failures = shows.failures ∙ sym failures;
-          armed = shows.armed ∙ ap armed_of (sym armed);
+        let refines_next : RefinesServer told means start new to next = record {
+          tells = refines.tells;
+          id = refines.id ∙ sym id;
+          lost = refines.lost ∙ ap (λ l. l.items) (sym lost);
+          failures = refines.failures ∙ sym failures;
+          armed = refines.armed ∙ ap armed_of (sym armed);
           arm = subst (λ (o : Option Armed). IsArmed told means new o) (sym unarmed) free;
           rises = rises_on told means s.failures start mid new was later;
-          stand = subst (λ (o : Option RunningNode). ShowsStand told means new s.id o (Running turn.node)) (sym runs) (state, refl, opened);
+          stand = subst (λ (o : Option RunningNode). RefinesStand told means new s.id o (Running turn.node)) (sym runs) (state, refl, opened);
           spent = λ none. (let e = sym runs ∙ none in absurd (cc));
         } in
-        let so : ShowsServer told means start new to (start_act course s).0 × (text ≡ before ++ (start_act course s).1) =
-        subst (λ (t : Server × List ℕ). ShowsServer told means start new to t.0 × (text ≡ before ++ t.1)) (sym (starts_as course))
-        (shows_next, text_is ∙ ap (λ (n : Node). before ++ up_text n) state) in
+        let so : RefinesServer told means start new to (start_act course s).0 × (text ≡ before ++ (start_act course s).1) =
+        subst (λ (t : Server × List ℕ). RefinesServer told means start new to t.0 × (text ≡ before ++ t.1)) (sym (starts_as course))
+        (refines_next, text_is ∙ ap (λ (n : Node). before ++ up_text n) state) in
         (course, so.0, so.1)
 
     -- a disk has failed
@@ -173,18 +173,18 @@ module _ {D F : Type 0} (told : Bool) (means : D → DiskMeaning) where
         → (e ≡ errors.Disk) ⊎ (Stands told means new from.id is_down.kept is_down.rest × ((e ≡ errors.NoMemory) ⊎ ((boot : ℕ) × (e ≡ errors.Ended boot))))
         → (reached : Server) × ((reached ≡ s) ⊎ ((course : Course) × (reached ≡ (start_act course s).0))) × ServerStands told means start new (Some reached)
     starts_refused e cause failed (inl disk) = down_breaks told means start new start_act s [] (s.failures + 1) (starts_down (cause disk) (failed disk))
-    starts_refused e cause failed (inr (stands, free_answer)) = starts_not start_act (subst (λ (i : List ℕ). Stands told means new i is_down.kept is_down.rest) (sym shows.id) stands)
+    starts_refused e cause failed (inr (stands, free_answer)) = starts_not start_act (subst (λ (i : List ℕ). Stands told means new i is_down.kept is_down.rest) (sym refines.id) stands)
 
   -- ---- stopping at once
 
-  pub stops_down : LogsStand F means → (start old : DiskPair D F) (from : Host) (s : Server) (shows : ShowsServer told means start old from s) (new : DiskPair D F) (node : RunningNode)
+  pub stops_down : LogsStand F means → (start old : DiskPair D F) (from : Host) (s : Server) (refines : RefinesServer told means start old from s) (new : DiskPair D F) (node : RunningNode)
       → from.node ≡ Some node → Crashed told means old new → AreReadable node.state.log → GoesDown told means start new stop_act s (numbers node.state.waiting) s.failures
-  stops_down law start old from s shows new node runs crash log =
-      let shown = node_shown told means start old from s shows node runs in
+  stops_down law start old from s refines new node runs crash log =
+      let shown = node_shown told means start old from s refines node runs in
       let n = shown.n in
       let stood : Stands told means old s.id (persistent_of n) [] = subst (λ (i : List ℕ). Stands told means old i (persistent_of n) []) shown.named
       (subst (λ (m : Node). Stands told means old m.id (persistent_of m) []) shown.state (open_stands told means law old node shown.opened)) in
-      let settle = settled told means old new s.id (persistent_of n) [] shows.tells crash stood in
+      let settle = settled told means old new s.id (persistent_of n) [] refines.tells crash stood in
       record {
         course = record { fault = NoFault; stands = 0 };
         next = gone_down s n (persistent_of n) [] [];
@@ -198,7 +198,7 @@ module _ {D F : Type 0} (told : Bool) (means : D → DiskMeaning) where
         stand = refl;
         stands = subst (λ (d : List StoredRecord). Stands told means new s.id (persistent_after (persistent_of n) d) []) (take_none settle.0) settle.1;
         readable = (subst (λ (m : Node). AreReadable m.log) shown.state log, all_none);
-        rises = rises_on told means s.failures start old new shows.rises (fewer_crashed told means old new crash);
+        rises = rises_on told means s.failures start old new refines.rises (fewer_crashed told means old new crash);
         arm = λ stop. (let e : Off ≡ Struck = sym crash.arm ∙ stop in absurd (cc));
       }
     where
@@ -207,26 +207,26 @@ module _ {D F : Type 0} (told : Bool) (means : D → DiskMeaning) where
 
   -- ---- arming
 
-  pub arms_server : (start old : DiskPair D F) (from to : Host) (s : Server) (shows : ShowsServer told means start old from s) (new : DiskPair D F) (node : RunningNode) (arming : Arming)
+  pub arms_server : (start old : DiskPair D F) (from to : Host) (s : Server) (refines : RefinesServer told means start old from s) (new : DiskPair D F) (node : RunningNode) (arming : Arming)
       → SameDisks old new → from.node ≡ Some node → to ≡ record from { armed = Some arming } → ((arm_of old ≡ Struck → ⊥) → arm_of new ≡ Passes arming.calls) → IsOpen told means new node
-      → (bytes : List ℕ) → (course : Course) × ShowsServer told means start new to (arm_act arming.calls arming.pick course s).0 × (bytes ≡ bytes ++ (arm_act arming.calls arming.pick course s).1)
-  arms_server start old from to s shows new node arming same runs is armed opened bytes =
-      let shown = node_shown told means start old from s shows node runs in
+      → (bytes : List ℕ) → (course : Course) × RefinesServer told means start new to (arm_act arming.calls arming.pick course s).0 × (bytes ≡ bytes ++ (arm_act arming.calls arming.pick course s).1)
+  arms_server start old from to s refines new node arming same runs is armed opened bytes =
+      let shown = node_shown told means start old from s refines node runs in
       let next : Server = (arm_act arming.calls arming.pick (record { fault = NoFault; stands = 0 }) s).0 in
-      let not_struck : arm_of old ≡ Struck → ⊥ = unstruck s.armed shows.arm in
-      let shows_next : ShowsServer told means start new (record from { armed = Some arming }) next = record {
-        tells = shows.tells;
-        id = shows.id;
-        lost = shows.lost;
-        failures = shows.failures;
+      let not_struck : arm_of old ≡ Struck → ⊥ = unstruck s.armed refines.arm in
+      let refines_next : RefinesServer told means start new (record from { armed = Some arming }) next = record {
+        tells = refines.tells;
+        id = refines.id;
+        lost = refines.lost;
+        failures = refines.failures;
         armed = refl;
         arm = armed not_struck;
-        rises = rises_on told means s.failures start old new shows.rises (fewer_same told means old new same);
-        stand = subst (λ (o : Option RunningNode). ShowsStand told means new s.id o s.stand) (sym runs)
-            (subst (λ (st : Stand). ShowsStand told means new s.id (Some node) st) (sym shown.stand) (shown.state, shown.named, opened));
+        rises = rises_on told means s.failures start old new refines.rises (fewer_same told means old new same);
+        stand = subst (λ (o : Option RunningNode). RefinesStand told means new s.id o s.stand) (sym runs)
+            (subst (λ (st : Stand). RefinesStand told means new s.id (Some node) st) (sym shown.stand) (shown.state, shown.named, opened));
         spent = λ none. (let e = sym runs ∙ none in absurd (cc));
       } in
-      (record { fault = NoFault; stands = 0 }, subst (λ (h : Host). ShowsServer told means start new h next) (sym is) shows_next, sym (append-nil bytes))
+      (record { fault = NoFault; stands = 0 }, subst (λ (h : Host). RefinesServer told means start new h next) (sym is) refines_next, sym (append-nil bytes))
     where
       unstruck : (o : Option Armed) → IsArmed told means old o → arm_of old ≡ Struck → ⊥
       unstruck None is struck = is struck

@@ -16,7 +16,7 @@ use Rattle.rq_script.specs.ScriptText.{answers_text, down_text}
 use Rattle.rq_cluster.specs.Acting.{event}
 use Rattle.rq_cluster.specs.declared.arming.Arming.{Arming}
 use Rattle.rq_cluster.specs.declared.host.Host.{Host}
-use Rattle.rq_cluster.specs.Refines.{ShowsServer, ShowsStand, IsArmed, LetsPass, armed_of}
+use Rattle.rq_cluster.specs.Refines.{RefinesServer, RefinesStand, IsArmed, LetsPass, armed_of}
 use Rattle.rq_cluster.proofs.Pairs.{SameDisks, NoFewer, fewer_same, rises_on, stands_same}
 
 -- ---- what a turn makes of a server
@@ -89,9 +89,9 @@ module _ {D F : Type 0} (told : Bool) (means : D → DiskMeaning) where
   is_let mid None lets = λ struck. (let e : Passes (2 ^ 64 - 1) ≡ Struck = sym lets ∙ struck in absurd (cc))
   is_let mid (Some a) lets = lets
 
-  -- ---- the node that a host shows
+  -- ---- the node that a host refines
 
-  module _ (start old : DiskPair D F) (from : Host) (s : Server) (shows : ShowsServer told means start old from s) where
+  module _ (start old : DiskPair D F) (from : Host) (s : Server) (refines : RefinesServer told means start old from s) where
     pub record IsNode (node : RunningNode) : Type 0 where
       pub n : Node
       pub stand : s.stand ≡ Running n
@@ -100,9 +100,9 @@ module _ {D F : Type 0} (told : Bool) (means : D → DiskMeaning) where
       pub opened : IsOpen told means old node
 
     pub node_shown : (node : RunningNode) → from.node ≡ Some node → IsNode node
-    node_shown node runs = by s.stand refl (subst (λ (o : Option RunningNode). ShowsStand told means old s.id o s.stand) runs shows.stand)
+    node_shown node runs = by s.stand refl (subst (λ (o : Option RunningNode). RefinesStand told means old s.id o s.stand) runs refines.stand)
       where
-        by : (st : Stand) → s.stand ≡ st → ShowsStand told means old s.id (Some node) st → IsNode node
+        by : (st : Stand) → s.stand ≡ st → RefinesStand told means old s.id (Some node) st → IsNode node
         by (Running n) is (state, named, opened) = record { n = n; stand = is; state = state; named = named; opened = opened }
         by (Down kept rest) is nothing = absurd nothing
 
@@ -114,9 +114,9 @@ module _ {D F : Type 0} (told : Bool) (means : D → DiskMeaning) where
       pub readable : CanBeRead kept rest
 
     pub down_shown : from.node ≡ None → IsDown
-    down_shown none = by s.stand refl (subst (λ (o : Option RunningNode). ShowsStand told means old s.id o s.stand) none shows.stand)
+    down_shown none = by s.stand refl (subst (λ (o : Option RunningNode). RefinesStand told means old s.id o s.stand) none refines.stand)
       where
-        by : (st : Stand) → s.stand ≡ st → ShowsStand told means old s.id None st → IsDown
+        by : (st : Stand) → s.stand ≡ st → RefinesStand told means old s.id None st → IsDown
         by (Running n) is nothing = absurd nothing
         by (Down kept rest) is (stands, readable) = record { kept = kept; rest = rest; stand = is; stands = stands; readable = readable }
 
@@ -127,7 +127,7 @@ module _ {D F : Type 0} (told : Bool) (means : D → DiskMeaning) where
         (armed : armed_of to.armed ≡ left_after (armed_of from.armed) (4 * count)) (runs_on : to.node ≡ Some after)
         (state : after.state ≡ (rule node.state).node) (count_is : count ≡ length (rule node.state).records) (named : (rule node.state).node.id ≡ node.state.id)
         (opened : IsOpen told means new after) (calls : UsedCalls (4 * count) (arm_of mid) (arm_of new)) (text_is : text ≡ before ++ answers_text (rule node.state).answers) where
-      pub turn_goes : (course : Course) × ShowsServer told means start new to (event rule asked course s).0 × (text ≡ before ++ (event rule asked course s).1)
+      pub turn_goes : (course : Course) × RefinesServer told means start new to (event rule asked course s).0 × (text ≡ before ++ (event rule asked course s).1)
       turn_goes =
           let shown = node_shown node runs in
           let n = shown.n in
@@ -137,53 +137,53 @@ module _ {D F : Type 0} (told : Bool) (means : D → DiskMeaning) where
           let done = turn_done s n rule asked shown.stand (lets_passes mid new s.armed (needed (rule n).records) lets used) in
           let next : Server = record s { stand = Running (rule n).node; armed = left_after s.armed (needed (rule n).records) } in
           let is_armed : left_after s.armed (needed (rule n).records) ≡ armed_of to.armed =
-          ap (λ (c : ℕ). left_after s.armed c) (sym k) ∙ ap (λ (a : Option Armed). left_after a (4 * count)) shows.armed ∙ sym armed in
-          let there : ShowsStand told means new s.id to.node (Running (rule n).node) =
-          subst (λ (o : Option RunningNode). ShowsStand told means new s.id o (Running (rule n).node)) (sym runs_on)
+          ap (λ (c : ℕ). left_after s.armed c) (sym k) ∙ ap (λ (a : Option Armed). left_after a (4 * count)) refines.armed ∙ sym armed in
+          let there : RefinesStand told means new s.id to.node (Running (rule n).node) =
+          subst (λ (o : Option RunningNode). RefinesStand told means new s.id o (Running (rule n).node)) (sym runs_on)
           (state ∙ ap (λ (t : Turn). t.node) turn, subst (λ (m : Node). (rule m).node.id ≡ m.id) shown.state named ∙ shown.named, opened) in
-          let shows_next : ShowsServer told means start new to next = record {
-            tells = shows.tells;
-            id = shows.id ∙ sym id;
-            lost = shows.lost ∙ ap (λ l. l.items) (sym lost);
-            failures = shows.failures ∙ sym failures;
+          let refines_next : RefinesServer told means start new to next = record {
+            tells = refines.tells;
+            id = refines.id ∙ sym id;
+            lost = refines.lost ∙ ap (λ l. l.items) (sym lost);
+            failures = refines.failures ∙ sym failures;
             armed = is_armed;
             arm = arm_left mid new s.armed (needed (rule n).records) lets used;
-            rises = rises_on told means s.failures start old new shows.rises later;
+            rises = rises_on told means s.failures start old new refines.rises later;
             stand = there;
             spent = λ none. (let e = sym runs_on ∙ none in absurd (cc));
           } in
-          let so : ShowsServer told means start new to (event rule asked whole s).0 × (text ≡ before ++ (event rule asked whole s).1) =
-          subst (λ (t : Server × List ℕ). ShowsServer told means start new to t.0 × (text ≡ before ++ t.1)) (sym done) (shows_next, text_is ∙ ap (λ (t : Turn). before ++ answers_text t.answers) turn) in
+          let so : RefinesServer told means start new to (event rule asked whole s).0 × (text ≡ before ++ (event rule asked whole s).1) =
+          subst (λ (t : Server × List ℕ). RefinesServer told means start new to t.0 × (text ≡ before ++ t.1)) (sym done) (refines_next, text_is ∙ ap (λ (t : Turn). before ++ answers_text t.answers) turn) in
           (whole, so.0, so.1)
 
     pub lets_of : (mid : DiskPair D F) → (IsArmed told means old (armed_of from.armed) → LetsPass told means mid (armed_of from.armed)) → LetsPass told means mid s.armed
     lets_of mid passing =
-        subst (λ (a : Option Armed). LetsPass told means mid a) (sym shows.armed) (passing (subst (λ (a : Option Armed). IsArmed told means old a) shows.armed shows.arm))
+        subst (λ (a : Option Armed). LetsPass told means mid a) (sym refines.armed) (passing (subst (λ (a : Option Armed). IsArmed told means old a) refines.armed refines.arm))
 
     -- an event at a node that is down
     pub idle_goes : (mid : DiskPair D F) (to : Host) (rule : Node → Turn) (asked before : List ℕ) → SameDisks old mid → LetsPass told means mid s.armed → from.node ≡ None
         → to.id ≡ from.id → to.lost.items ≡ from.lost.items ++ asked → to.failures ≡ from.failures → to.armed ≡ from.armed → to.node ≡ None
-        → (course : Course) × ShowsServer told means start mid to (event rule asked course s).0 × (before ≡ before ++ (event rule asked course s).1)
+        → (course : Course) × RefinesServer told means start mid to (event rule asked course s).0 × (before ≡ before ++ (event rule asked course s).1)
     idle_goes mid to rule asked before same lets none id lost failures armed none_to =
         let down = down_shown none in
         let next : Server = record s { lost = s.lost ++ asked } in
-        let there : ShowsStand told means mid s.id to.node s.stand =
-        subst (λ (o : Option RunningNode). ShowsStand told means mid s.id o s.stand) (sym none_to)
-        (subst (λ (st : Stand). ShowsStand told means mid s.id None st) (sym down.stand) (stands_same told means old mid s.id down.kept down.rest same down.stands, down.readable)) in
-        let shows_next : ShowsServer told means start mid to next = record {
-          tells = shows.tells;
-          id = shows.id ∙ sym id;
-          lost = ap (λ (l : List ℕ). l ++ asked) shows.lost ∙ sym lost;
-          failures = shows.failures ∙ sym failures;
-          armed = shows.armed ∙ ap armed_of (sym armed);
+        let there : RefinesStand told means mid s.id to.node s.stand =
+        subst (λ (o : Option RunningNode). RefinesStand told means mid s.id o s.stand) (sym none_to)
+        (subst (λ (st : Stand). RefinesStand told means mid s.id None st) (sym down.stand) (stands_same told means old mid s.id down.kept down.rest same down.stands, down.readable)) in
+        let refines_next : RefinesServer told means start mid to next = record {
+          tells = refines.tells;
+          id = refines.id ∙ sym id;
+          lost = ap (λ (l : List ℕ). l ++ asked) refines.lost ∙ sym lost;
+          failures = refines.failures ∙ sym failures;
+          armed = refines.armed ∙ ap armed_of (sym armed);
           arm = is_let mid s.armed lets;
-          rises = rises_on told means s.failures start old mid shows.rises (fewer_same told means old mid same);
+          rises = rises_on told means s.failures start old mid refines.rises (fewer_same told means old mid same);
           stand = there;
-          spent = λ _. shows.spent none;
+          spent = λ _. refines.spent none;
         } in
-        let so : ShowsServer told means start mid to (event rule asked whole s).0 × (before ≡ before ++ (event rule asked whole s).1) =
-        subst (λ (t : Server × List ℕ). ShowsServer told means start mid to t.0 × (before ≡ before ++ t.1)) (sym (happens_down whole s down.kept down.rest rule asked down.stand))
-        (shows_next, sym (append-nil before)) in
+        let so : RefinesServer told means start mid to (event rule asked whole s).0 × (before ≡ before ++ (event rule asked whole s).1) =
+        subst (λ (t : Server × List ℕ). RefinesServer told means start mid to t.0 × (before ≡ before ++ t.1)) (sym (happens_down whole s down.kept down.rest rule asked down.stand))
+        (refines_next, sym (append-nil before)) in
         (whole, so.0, so.1)
 
 -- ---- options

@@ -24,7 +24,7 @@ use Rattle.rq_script.specs.ScriptLine.{Line, Cluster as ClusterLine, line_of}
 use Rattle.rq_cluster.specs.Acting.{start as start_act}
 use Rattle.rq_cluster.specs.declared.host.Host.{Host}
 use Rattle.rq_cluster.specs.declared.world.World.{World}
-use Rattle.rq_cluster.specs.Refines.{ShowsServer, ShowsStand, ShowsHost, ShowsCluster, Goes, BreaksOff, Leads, DoesLine, BreaksLine, IsOutsideHere, Does, Breaks, Shows, armed_of}
+use Rattle.rq_cluster.specs.Refines.{RefinesServer, RefinesStand, RefinesHost, RefinesCluster, Goes, BreaksOff, Leads, DoesLine, BreaksLine, IsOutsideHere, Does, Breaks, Refines, armed_of}
 use Rattle.rq_cluster.specs.Recovery.{IsNew, Rises, ServerStands, Holds}
 
 -- two closed files stand for the first base
@@ -47,9 +47,9 @@ founds : (course : Course) (c : Cluster) (id : List ℕ) → c.server ≡ None
 founds course c id none = ap (λ (o : Option Server). founded course (record c { server = o }) id) none
 
 module _ {D F : Type 0} (told : Bool) (means : D → DiskMeaning) where
-  new_shows : (start pair : DiskPair D F) (host : Host) (id : List ℕ) → IsTrue told → IsNew told means pair → Rises told means 0 start pair → IsFresh host id
-      → ShowsServer told means start pair host (new_server id)
-  new_shows start pair host id tells new rises h = record {
+  new_refines : (start pair : DiskPair D F) (host : Host) (id : List ℕ) → IsTrue told → IsNew told means pair → Rises told means 0 start pair → IsFresh host id
+      → RefinesServer told means start pair host (new_server id)
+  new_refines start pair host id tells new rises h = record {
     tells = tells;
     id = sym h.is_id;
     lost = sym h.lost;
@@ -57,7 +57,7 @@ module _ {D F : Type 0} (told : Bool) (means : D → DiskMeaning) where
     armed = sym (ap armed_of h.armed);
     arm = λ struck. (let e : Off ≡ Struck = sym new.unarmed ∙ struck in absurd (cc));
     rises = rises;
-    stand = subst (λ (o : Option RunningNode). ShowsStand told means pair id o (Down first_persistent [])) (sym h.node)
+    stand = subst (λ (o : Option RunningNode). RefinesStand told means pair id o (Down first_persistent [])) (sym h.node)
         (stands, (All-nil (λ (entry : LogEntry). IsPersistentReadable entry.content), All-nil IsItemReadable));
     spent = λ _. refl;
   }
@@ -65,11 +65,11 @@ module _ {D F : Type 0} (told : Bool) (means : D → DiskMeaning) where
       stands : Stands told means pair id first_persistent []
       stands t one two in_one in_two = (0, closed_gives (first_base id) one two (new.closed t one two in_one in_two))
 
-  no_server : (start pair : DiskPair D F) (world : World) (c : Cluster) → world.host ≡ None → ShowsCluster told means start pair world c
+  no_server : (start pair : DiskPair D F) (world : World) (c : Cluster) → world.host ≡ None → RefinesCluster told means start pair world c
       → (c.server ≡ None) × IsTrue told × IsNew told means pair × Rises told means 0 start pair
-  no_server start pair world c is shown = by c.server refl (subst (λ (o : Option Host). ShowsHost told means start pair o c.server) is shown.1)
+  no_server start pair world c is shown = by c.server refl (subst (λ (o : Option Host). RefinesHost told means start pair o c.server) is shown.1)
     where
-      by : (o : Option Server) → c.server ≡ o → ShowsHost told means start pair None o → (c.server ≡ None) × IsTrue told × IsNew told means pair × Rises told means 0 start pair
+      by : (o : Option Server) → c.server ≡ o → RefinesHost told means start pair None o → (c.server ≡ None) × IsTrue told × IsNew told means pair × Rises told means 0 start pair
       by None there (tells, new, rises) = (there, tells, new, rises)
       by (Some s) there nothing = absurd nothing
 
@@ -80,19 +80,19 @@ module _ {D F : Type 0} (told : Bool) (means : D → DiskMeaning) where
         → DoesLine told means (ClusterLine id) old new from to before text
     found_does to after before text there counts goes start c shown =
         let none = no_server start old from c is shown in
-        let went = goes start (new_server id) (new_shows start old host id none.1 none.2 none.3 h) in
+        let went = goes start (new_server id) (new_refines start old host id none.1 none.2 none.3 h) in
         let next : Cluster = record c { server = Some (start_act went.0 (new_server id)).0 } in (
           next,
           (start_act went.0 (new_server id)).1,
           ([], went.0, tt, founds went.0 c id none.0),
           went.2,
-          (shown.0 ∙ sym counts, subst (λ (o : Option Host). ShowsHost told means start new o (Some (start_act went.0 (new_server id)).0)) (sym there) went.1),
+          (shown.0 ∙ sym counts, subst (λ (o : Option Host). RefinesHost told means start new o (Some (start_act went.0 (new_server id)).0)) (sym there) went.1),
         )
 
     pub found_breaks : BreaksOff told means start_act old new host → BreaksLine told means (ClusterLine id) old new from
     found_breaks off start c shown =
         let none = no_server start old from c is shown in
-        let broke = off start (new_server id) (new_shows start old host id none.1 none.2 none.3 h) in
+        let broke = off start (new_server id) (new_refines start old host id none.1 none.2 none.3 h) in
         by none.0 broke.0 broke.1 broke.2
       where
         by : c.server ≡ None → (reached : Server) → ((reached ≡ new_server id) ⊎ ((course : Course) × (reached ≡ (start_act course (new_server id)).0))) → ServerStands told means start new (Some reached)
@@ -110,7 +110,7 @@ module _ {D F : Type 0} (told : Bool) (means : D → DiskMeaning) where
 
   -- ---- want of memory, before anything was touched
 
-  module _ (stands : (start pair : DiskPair D F) (host : Option Host) (server : Option Server) → ShowsHost told means start pair host server → ServerStands told means start pair server) where
+  module _ (stands : (start pair : DiskPair D F) (host : Option Host) (server : Option Server) → RefinesHost told means start pair host server → ServerStands told means start pair server) where
     pub breaks_untouched : (line : Line) (old new : DiskPair D F) (from : World) → new ≡ old → BreaksLine told means line old new from
     breaks_untouched line old new from same start c shown =
         (c, inl refl, subst (λ (p : DiskPair D F). ServerStands told means start p c.server) (sym same) (stands start old from.host c.server shown.1))
@@ -157,7 +157,7 @@ module _ {D F : Type 0} (told : Bool) (means : D → DiskMeaning) (bytes : List 
       by reached (inr (inl within)) = inr (inl (ap (option_and_then (named c)) is ∙ within))
       by reached (inr (inr (written, leads))) = inr (inr (written, leads_steps c reached bytes written line is leads))
 
-  pub outside_bytes : IsOutsideHere told means line old from → (start : DiskPair D F) (c : Cluster) → ShowsCluster told means start old from c → IsOutside c bytes
+  pub outside_bytes : IsOutsideHere told means line old from → (start : DiskPair D F) (c : Cluster) → RefinesCluster told means start old from c → IsOutside c bytes
   outside_bytes outside start c shown = outside_by c bytes line is (outside start c shown)
 
 pub on_ok_map : {T E : Type 0} (r : Result T E) (P Q : Type 0) → (P → Q) → OnOk r P → OnOk r Q
@@ -184,46 +184,46 @@ same_some o x y one two = cc
 
 module _ {D F : Type 0} (told : Bool) (means : D → DiskMeaning) (pairs : List (DiskPair D F)) (old new : DiskPair D F) (from : World) (there : slice_get pairs 0 ≡ Some old) where
   pub step_does : (bytes : List ℕ) (to : World) (before text : List ℕ) → Does told means bytes old new from to before text
-      → (start : List (DiskPair D F)) (c : Cluster) → Shows told means start pairs from c
-      → (next : Cluster) × (written : List ℕ) × Steps c bytes written next × (text ≡ before ++ written) × Shows told means start (set pairs 0 new) to next
-  step_does bytes to before text does start c shows =
-      let s = first_of start shows.began in
-      let d = does s.0 c (shows.first s.0 old s.1 there) in (
+      → (start : List (DiskPair D F)) (c : Cluster) → Refines told means start pairs from c
+      → (next : Cluster) × (written : List ℕ) × Steps c bytes written next × (text ≡ before ++ written) × Refines told means start (set pairs 0 new) to next
+  step_does bytes to before text does start c refines =
+      let s = first_of start refines.began in
+      let d = does s.0 c (refines.first s.0 old s.1 there) in (
         d.0,
         d.1,
         d.2,
         d.3,
         record {
-          tells = shows.tells;
-          began = shows.began;
-          count = length-set pairs 0 new ∙ shows.count;
+          tells = refines.tells;
+          began = refines.began;
+          count = length-set pairs 0 new ∙ refines.count;
           first = λ was now b n.
-              subst (λ (p : DiskPair D F). ShowsCluster told means p now to d.0) (same_some (slice_get start 0) s.0 was s.1 b)
-              (subst (λ (p : DiskPair D F). ShowsCluster told means s.0 p to d.0) (sym (first_set pairs now new n)) d.4);
-          others = λ k above. other_set pairs k new above ∙ shows.others k above;
+              subst (λ (p : DiskPair D F). RefinesCluster told means p now to d.0) (same_some (slice_get start 0) s.0 was s.1 b)
+              (subst (λ (p : DiskPair D F). RefinesCluster told means s.0 p to d.0) (sym (first_set pairs now new n)) d.4);
+          others = λ k above. other_set pairs k new above ∙ refines.others k above;
         },
       )
 
-  module _ (start : List (DiskPair D F)) (c : Cluster) (shows : Shows told means start pairs from c) where
+  module _ (start : List (DiskPair D F)) (c : Cluster) (refines : Refines told means start pairs from c) where
     holds : (reached : Cluster) → ((was : DiskPair D F) → slice_get start 0 ≡ Some was → ServerStands told means was new reached.server) → Holds told means start (set pairs 0 new) reached
     holds reached stands = record {
-      count = length-set pairs 0 new ∙ shows.count;
+      count = length-set pairs 0 new ∙ refines.count;
       first = λ was now b n. subst (λ (p : DiskPair D F). ServerStands told means was p reached.server) (sym (first_set pairs now new n)) (stands was b);
-      others = λ k above. other_set pairs k new above ∙ shows.others k above;
+      others = λ k above. other_set pairs k new above ∙ refines.others k above;
     }
 
     -- the line can't stand here
-    pub step_outside : (bytes : List ℕ) → ((start : DiskPair D F) (c : Cluster) → ShowsCluster told means start old from c → IsOutside c bytes) → new ≡ old → Holds told means start pairs c
+    pub step_outside : (bytes : List ℕ) → ((start : DiskPair D F) (c : Cluster) → RefinesCluster told means start old from c → IsOutside c bytes) → new ≡ old → Holds told means start pairs c
         → IsOutside c bytes × Holds told means start (set pairs 0 new) c
     step_outside bytes outside same held =
-        let s = first_of start shows.began in (
-          outside s.0 c (shows.first s.0 old s.1 there),
+        let s = first_of start refines.began in (
+          outside s.0 c (refines.first s.0 old s.1 there),
           holds c (λ was b. subst (λ (p : DiskPair D F). ServerStands told means was p c.server) (sym same) (held.first was old b there)),
         )
 
     -- want of memory broke it off
     pub step_breaks : (bytes : List ℕ) → Breaks told means bytes old new from → (reached : Cluster) × MayReach c bytes reached × Holds told means start (set pairs 0 new) reached
     step_breaks bytes breaks =
-        let s = first_of start shows.began in
-        let b = breaks s.0 c (shows.first s.0 old s.1 there) in
+        let s = first_of start refines.began in
+        let b = breaks s.0 c (refines.first s.0 old s.1 there) in
         (b.0, b.1, holds b.0 (λ was at. subst (λ (p : DiskPair D F). ServerStands told means p new b.0.server) (same_some (slice_get start 0) s.0 was s.1 at) b.2))

@@ -8,7 +8,7 @@ use Rattle.rq_script.specs.Runs.{Runs, StopsAt}
 use Rattle.rq_cluster.specs.declared.progress.Progress.{Progress}
 use Rattle.rq_cluster.specs.LastLines.{IsPrefix}
 use Rattle.rq_cluster.specs.Outcome.{Took}
-use Rattle.rq_cluster.specs.Refines.{Shows}
+use Rattle.rq_cluster.specs.Refines.{Refines}
 
 -- after these bytes: the lines so far have run and written this text, and `held` stand on the line to come, which has this number
 pub record After (read text : List ℕ) (c : Cluster) (number : ℕ) (held : List ℕ) (count : ℕ) : Type 0 where
@@ -32,7 +32,7 @@ pub data PartOf (Stays : Cluster → Type 0) (c : Cluster) (line : List ℕ) : L
 module _ {D F : Type 0} (tells : Bool) (means : D → DiskMeaning) where
   -- So far a script came after these bytes, which wrote this text, from pairs that were as at the start to these
   abbrev pub IsAfter : List (DiskPair D F) → List (DiskPair D F) → List ℕ → List ℕ → Progress → Type 0
-  IsAfter start pairs read text progress = (c : Cluster) × After read text c progress.number progress.held.items progress.read × Shows tells means start pairs progress.world c
+  IsAfter start pairs read text progress = (c : Cluster) × After read text c progress.number progress.held.items progress.read × Refines tells means start pairs progress.world c
 
   module _ (from_pairs to_pairs : List (DiskPair D F)) (told : Bool) (old new : List ℕ) where
     -- with this piece the script goes on

@@ -1,4 +1,4 @@
--- Which cluster the running program and its pairs show.
+-- Which cluster the running program and its pairs refine.
 use Rattle.std.specs.Prelude.{◌≡◌, ◌⊎◌, ◌<◌, ◌-◌, ◌^◌, ◌++◌, ℕ, Bool, IsTrue, List, [], length, slice_get, Option, Some, None, ⊤}
 use Rattle.std.specs.Option.{option_map}
 use Rattle.rq_outside.specs.declared.pair.DiskPair.{DiskPair}
@@ -61,14 +61,14 @@ module _ {D F : Type 0} (told : Bool) (means : D → DiskMeaning) where
   LetsPass pair (Some armed) = arm_of pair ≡ Passes armed.calls
 
   -- the node runs, with its file; or it is down, and whatever a crash now leaves can be opened again
-  abbrev pub ShowsStand : DiskPair D F → List ℕ → Option RunningNode → Stand → Type 0
-  ShowsStand pair id (Some node) (Running n) = (node.state ≡ n) × (n.id ≡ id) × IsOpen told means pair node
-  ShowsStand pair id None (Down kept rest) = Stands told means pair id kept rest × CanBeRead kept rest
-  ShowsStand pair id (Some node) (Down kept rest) = ⊥
-  ShowsStand pair id None (Running n) = ⊥
+  abbrev pub RefinesStand : DiskPair D F → List ℕ → Option RunningNode → Stand → Type 0
+  RefinesStand pair id (Some node) (Running n) = (node.state ≡ n) × (n.id ≡ id) × IsOpen told means pair node
+  RefinesStand pair id None (Down kept rest) = Stands told means pair id kept rest × CanBeRead kept rest
+  RefinesStand pair id (Some node) (Down kept rest) = ⊥
+  RefinesStand pair id None (Running n) = ⊥
 
-  -- the host and its pair show this server, where the disks tell what they hold
-  pub record ShowsServer (start pair : DiskPair D F) (host : Host) (s : Server) : Type 0 where
+  -- the host and its pair refine this server, where the disks tell what they hold
+  pub record RefinesServer (start pair : DiskPair D F) (host : Host) (s : Server) : Type 0 where
     pub tells : IsTrue told
     pub id : s.id ≡ host.id
     pub lost : s.lost ≡ host.lost.items
@@ -76,61 +76,61 @@ module _ {D F : Type 0} (told : Bool) (means : D → DiskMeaning) where
     pub armed : s.armed ≡ armed_of host.armed
     pub arm : IsArmed pair s.armed
     pub rises : Rises told means s.failures start pair
-    pub stand : ShowsStand pair s.id host.node s.stand
+    pub stand : RefinesStand pair s.id host.node s.stand
     pub spent : host.node ≡ None → s.armed ≡ None
 
-  abbrev pub ShowsHost : DiskPair D F → DiskPair D F → Option Host → Option Server → Type 0
-  ShowsHost start pair None None = IsTrue told × IsNew told means pair × Rises told means 0 start pair
-  ShowsHost start pair (Some host) (Some s) = ShowsServer start pair host s
-  ShowsHost start pair None (Some s) = ⊥
-  ShowsHost start pair (Some host) None = ⊥
+  abbrev pub RefinesHost : DiskPair D F → DiskPair D F → Option Host → Option Server → Type 0
+  RefinesHost start pair None None = IsTrue told × IsNew told means pair × Rises told means 0 start pair
+  RefinesHost start pair (Some host) (Some s) = RefinesServer start pair host s
+  RefinesHost start pair None (Some s) = ⊥
+  RefinesHost start pair (Some host) None = ⊥
 
-  abbrev pub ShowsCluster : DiskPair D F → DiskPair D F → World → Cluster → Type 0
-  ShowsCluster start pair world c = (c.asks ≡ world.asks) × ShowsHost start pair world.host c.server
+  abbrev pub RefinesCluster : DiskPair D F → DiskPair D F → World → Cluster → Type 0
+  RefinesCluster start pair world c = (c.asks ≡ world.asks) × RefinesHost start pair world.host c.server
 
-  -- the program and its nine pairs show this cluster
-  pub record Shows (start pairs : List (DiskPair D F)) (world : World) (c : Cluster) : Type 0 where
+  -- the program and its nine pairs refine this cluster
+  pub record Refines (start pairs : List (DiskPair D F)) (world : World) (c : Cluster) : Type 0 where
     pub tells : IsTrue told
     pub began : length start ≡ 9
     pub count : length pairs ≡ 9
-    pub first : (before now : DiskPair D F) → slice_get start 0 ≡ Some before → slice_get pairs 0 ≡ Some now → ShowsCluster before now world c
+    pub first : (before now : DiskPair D F) → slice_get start 0 ≡ Some before → slice_get pairs 0 ≡ Some now → RefinesCluster before now world c
     pub others : (k : ℕ) → 0 < k → slice_get pairs k ≡ slice_get start k
 
   -- ---- events
 
-  -- the event was done: in one of its courses it has led to the server that is shown, and its text was written
+  -- the event was done: in one of its courses it has led to the server that is refined, and its text was written
   abbrev pub Goes : Act → DiskPair D F → DiskPair D F → Host → Host → List ℕ → List ℕ → Type 0
   Goes act old new from to before after =
-      (start : DiskPair D F) (s : Server) → ShowsServer start old from s → (course : Course) × ShowsServer start new to (act course s).0 × (after ≡ before ++ (act course s).1)
+      (start : DiskPair D F) (s : Server) → RefinesServer start old from s → (course : Course) × RefinesServer start new to (act course s).0 × (after ≡ before ++ (act course s).1)
 
   -- want of memory broke the event off: the pair stands for the server as it was, or as the event leaves it
   abbrev pub BreaksOff : Act → DiskPair D F → DiskPair D F → Host → Type 0
   BreaksOff act old new from =
-      (start : DiskPair D F) (s : Server) → ShowsServer start old from s
+      (start : DiskPair D F) (s : Server) → RefinesServer start old from s
       → (reached : Server) × ((reached ≡ s) ⊎ ((course : Course) × (reached ≡ (act course s).0))) × ServerStands told means start new (Some reached)
 
   -- a line was done
   abbrev pub DoesLine : Line → DiskPair D F → DiskPair D F → World → World → List ℕ → List ℕ → Type 0
   DoesLine line old new from to before after =
-      (start : DiskPair D F) (c : Cluster) → ShowsCluster start old from c
-      → (next : Cluster) × (written : List ℕ) × Leads c line written next × (after ≡ before ++ written) × ShowsCluster start new to next
+      (start : DiskPair D F) (c : Cluster) → RefinesCluster start old from c
+      → (next : Cluster) × (written : List ℕ) × Leads c line written next × (after ≡ before ++ written) × RefinesCluster start new to next
 
   -- it can't stand here
   abbrev pub IsOutsideHere : Line → DiskPair D F → World → Type 0
-  IsOutsideHere line old from = (start : DiskPair D F) (c : Cluster) → ShowsCluster start old from c → done [] whole c line ≡ None
+  IsOutsideHere line old from = (start : DiskPair D F) (c : Cluster) → RefinesCluster start old from c → done [] whole c line ≡ None
 
   -- want of memory broke it off
   abbrev pub BreaksLine : Line → DiskPair D F → DiskPair D F → World → Type 0
   BreaksLine line old new from =
-      (start : DiskPair D F) (c : Cluster) → ShowsCluster start old from c
+      (start : DiskPair D F) (c : Cluster) → RefinesCluster start old from c
       → (reached : Cluster) × ((reached ≡ c) ⊎ (named c line ≡ Some reached) ⊎ ((written : List ℕ) × Leads c line written reached)) × ServerStands told means start new reached.server
 
   -- the same of the bytes that spell it
   abbrev pub Does : List ℕ → DiskPair D F → DiskPair D F → World → World → List ℕ → List ℕ → Type 0
   Does bytes old new from to before after =
-      (start : DiskPair D F) (c : Cluster) → ShowsCluster start old from c
-      → (next : Cluster) × (written : List ℕ) × Steps c bytes written next × (after ≡ before ++ written) × ShowsCluster start new to next
+      (start : DiskPair D F) (c : Cluster) → RefinesCluster start old from c
+      → (next : Cluster) × (written : List ℕ) × Steps c bytes written next × (after ≡ before ++ written) × RefinesCluster start new to next
 
   abbrev pub Breaks : List ℕ → DiskPair D F → DiskPair D F → World → Type 0
   Breaks bytes old new from =
-      (start : DiskPair D F) (c : Cluster) → ShowsCluster start old from c → (reached : Cluster) × MayReach c bytes reached × ServerStands told means start new reached.server
+      (start : DiskPair D F) (c : Cluster) → RefinesCluster start old from c → (reached : Cluster) × MayReach c bytes reached × ServerStands told means start new reached.server

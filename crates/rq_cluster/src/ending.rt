@@ -8,7 +8,7 @@ ghost use Rattle.rq_script.specs.ScriptText.{pending_text};
 ghost use Rattle.rq_cluster.specs.Outcome.{Took, BrokenOff, Wrote};
 ghost use Rattle.rq_cluster.specs.LastLines.{stopped_line, LastLine};
 ghost use Rattle.rq_cluster.specs.Feed.{IsAfter, StopsKept, AtEnd};
-ghost use Rattle.rq_cluster.specs.Refines.{IsReady, Shows, pending_in};
+ghost use Rattle.rq_cluster.specs.Refines.{IsReady, Refines, pending_in};
 ghost use Rattle.rq_cluster.specs.Recovery.{Holds};
 ghost use Rattle.rq_cluster.specs.declared.feeding.Stop.TheVariants.{Outside as StopOutside, Sink as StopSink, Source as StopSource};
 
@@ -29,7 +29,7 @@ pub fn last_held<D: CrashDisk, K: Sink>(
     sink: &mut K,
 ) -> Result<u64, Stop>
     requires ready { IsReady D.told D.means disks.old.items progress.old.world }
-    ensures ok { IfOk result (λ number. (start : List (ThePair D D.Fault)) (read text : List ℕ) → IsAfter D.told D.means start disks.old.items read text progress.old → Took K.told (K.taken sink.old) (K.taken sink.new) (λ out. (c : Cluster) × AtEnd (lines_of read) (text ++ out) c number × Shows D.told D.means start disks.new.items progress.new.world c)) }
+    ensures ok { IfOk result (λ number. (start : List (ThePair D D.Fault)) (read text : List ℕ) → IsAfter D.told D.means start disks.old.items read text progress.old → Took K.told (K.taken sink.old) (K.taken sink.new) (λ out. (c : Cluster) × AtEnd (lines_of read) (text ++ out) c number × Refines D.told D.means start disks.new.items progress.new.world c)) }
     ensures ready { OnOk result (IsReady D.told D.means disks.new.items progress.new.world) }
     ensures outside { IsErrOf result StopOutside → (start : List (ThePair D D.Fault)) (read text : List ℕ) → IsAfter D.told D.means start disks.old.items read text progress.old → Took K.told (K.taken sink.old) (K.taken sink.new) (λ out. StopsKept (Holds D.told D.means start disks.new.items) progress.new.number (lines_of read) (text ++ out)) }
     ensures part { OnErr result ((start : List (ThePair D D.Fault)) (read text : List ℕ) → IsAfter D.told D.means start disks.old.items read text progress.old → Took K.told (K.taken sink.old) (K.taken sink.new) (λ out. BrokenOff (lines_of read) (Holds D.told D.means start disks.new.items) (text ++ out))) }

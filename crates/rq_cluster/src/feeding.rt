@@ -7,7 +7,7 @@ ghost use Rattle.rq_script.specs.Lines.{drop_cr, lines_of};
 ghost use Rattle.rq_script.specs.Runs.{StopsAt};
 ghost use Rattle.rq_cluster.specs.Feed.{After, IsAfter, IsBetween, PartOf, StopsKept, GoesOn, Stopped, HasNoLineEnd};
 ghost use Rattle.rq_cluster.specs.Outcome.{Took, BrokenOff};
-ghost use Rattle.rq_cluster.specs.Refines.{IsReady, Shows};
+ghost use Rattle.rq_cluster.specs.Refines.{IsReady, Refines};
 ghost use Rattle.rq_cluster.specs.Recovery.{Holds};
 ghost use Rattle.rq_cluster.specs.declared.feeding.Stop.TheVariants.{Outside as StopOutside, Sink as StopSink, Source as StopSource};
 
@@ -18,13 +18,8 @@ use crate::reason::Reason;
 use crate::recovery::refined_clusters_stand;
 use crate::world::World;
 use rq_outside::{CrashDisk, DiskPair, Sink, SinkError};
+use rq_values::{MAX_LINE, MAX_SCRIPT};
 use std::alloc::Global;
-
-/// The longest line, in bytes, without its end.
-pub const MAX_LINE: usize = 2_097_152;
-
-/// The longest script, in bytes.
-pub const MAX_SCRIPT: u64 = 67_108_864;
 
 /// What ends a script early.
 #[derive(Clone, Copy, Debug, PartialEq, Eq)]
@@ -63,11 +58,11 @@ pub fn do_line<D: CrashDisk, K: Sink>(
     line: &[u8],
 ) -> Result<(), Stop>
     requires { IsReady D.told D.means disks.old.items world.old }
-    ensures ok { OnOk result ((start : List (ThePair D D.Fault)) (c : Cluster) → Shows D.told D.means start disks.old.items world.old c → (next : Cluster) × (text : List ℕ) × (length line.now ≤ 2097152) × Steps c line.now text next × (IsTrue K.told → K.taken sink.new ≡ K.taken sink.old ++ text) × Shows D.told D.means start disks.new.items world.new next) }
+    ensures ok { OnOk result ((start : List (ThePair D D.Fault)) (c : Cluster) → Refines D.told D.means start disks.old.items world.old c → (next : Cluster) × (text : List ℕ) × (length line.now ≤ 2097152) × Steps c line.now text next × (IsTrue K.told → K.taken sink.new ≡ K.taken sink.old ++ text) × Refines D.told D.means start disks.new.items world.new next) }
     ensures ready { OnOk result (IsReady D.told D.means disks.new.items world.new) }
-    ensures outside { IsErrOf result StopOutside → (start : List (ThePair D D.Fault)) (c : Cluster) → Shows D.told D.means start disks.old.items world.old c → ((2097152 < length line.now) ⊎ IsOutside c line.now) × Holds D.told D.means start disks.new.items c }
+    ensures outside { IsErrOf result StopOutside → (start : List (ThePair D D.Fault)) (c : Cluster) → Refines D.told D.means start disks.old.items world.old c → ((2097152 < length line.now) ⊎ IsOutside c line.now) × Holds D.told D.means start disks.new.items c }
     ensures unwritten { IsErrOf result StopOutside → IsTrue K.told → K.taken sink.new ≡ K.taken sink.old }
-    ensures part { OnErr result ((start : List (ThePair D D.Fault)) (c : Cluster) → Shows D.told D.means start disks.old.items world.old c → Took K.told (K.taken sink.old) (K.taken sink.new) (PartOf (Holds D.told D.means start disks.new.items) c line.now)) }
+    ensures part { OnErr result ((start : List (ThePair D D.Fault)) (c : Cluster) → Refines D.told D.means start disks.old.items world.old c → Took K.told (K.taken sink.old) (K.taken sink.new) (PartOf (Holds D.told D.means start disks.new.items) c line.now)) }
     ensures later { K.faults sink.old ≤ K.faults sink.new }
     ensures cause { IsErrOf result StopSink → Rose (K.faults sink.old) (K.faults sink.new) }
     ensures not_source { IsErrOf result StopSource → ⊥ }

@@ -1,14 +1,11 @@
 //! The cluster of a script, and what its lines do: docs/SCRIPT.md, "Lines".
 ghost use Rattle.std.specs.Prelude.{◌≡◌, ◌<◌, ◌++◌, ◌↔◌, ℕ, List, [], None, Some, All, IsTrue, IfOk, OnOk, IsErrOf, MatchOption, is_some, flat_map, ⊤};
 ghost use Rattle.rq_outside.specs.declared.pair.DiskPair.{DiskPair as ThePair};
-ghost use Rattle.rq_json.specs.Body.{texts_of};
-ghost use Rattle.rq_node.specs.Sound.{IsReadable};
 ghost use Rattle.rq_script.specs.Cluster.{Cluster as TheCluster, Steps, IsOutside, MayReach};
-ghost use Rattle.rq_script.specs.Preparing.{AreRead};
 ghost use Rattle.rq_script.specs.ReadLine.{action_read, line_read, HasPick, HasPickAt};
 ghost use Rattle.rq_script.specs.ScriptLine as lines;
 ghost use Rattle.rq_script.specs.ScriptText.{pending_text};
-ghost use Rattle.rq_cluster.specs.Refines.{HostReady, ServerReady, with_host, IsReady, ShowsCluster, Shows, Does, Breaks, DoesLine, IsOutsideHere, BreaksLine, pending_in};
+ghost use Rattle.rq_cluster.specs.Refines.{HostReady, ServerReady, with_host, IsReady, RefinesCluster, Refines, Does, Breaks, DoesLine, IsOutsideHere, BreaksLine, pending_in};
 ghost use Rattle.rq_cluster.specs.Events.{IsEvent};
 ghost use Rattle.rq_cluster.specs.Recovery.{Holds};
 ghost use Rattle.rq_cluster.specs.declared.line_error.LineError.TheVariants.{Outside, NoMemory as OutOfMemory};
@@ -61,10 +58,10 @@ impl World {
         text: &mut Vec<u8>,
     ) -> Result<(), LineError>
         requires ready { IsReady D.told D.means disks.old.items self.old }
-        ensures ok { OnOk result ((start : List (ThePair D D.Fault)) (c : TheCluster) → Shows D.told D.means start disks.old.items self.old c → (next : TheCluster) × (written : List ℕ) × Steps c line.now written next × (text.new.items ≡ text.old.items ++ written) × Shows D.told D.means start disks.new.items self.new next) }
+        ensures ok { OnOk result ((start : List (ThePair D D.Fault)) (c : TheCluster) → Refines D.told D.means start disks.old.items self.old c → (next : TheCluster) × (written : List ℕ) × Steps c line.now written next × (text.new.items ≡ text.old.items ++ written) × Refines D.told D.means start disks.new.items self.new next) }
         ensures ready { OnOk result (IsReady D.told D.means disks.new.items self.new) }
-        ensures outside { IsErrOf result Outside → (start : List (ThePair D D.Fault)) (c : TheCluster) → Shows D.told D.means start disks.old.items self.old c → IsOutside c line.now × Holds D.told D.means start disks.new.items c }
-        ensures broken { IsErrOf result OutOfMemory → (start : List (ThePair D D.Fault)) (c : TheCluster) → Shows D.told D.means start disks.old.items self.old c → (reached : TheCluster) × MayReach c line.now reached × Holds D.told D.means start disks.new.items reached }
+        ensures outside { IsErrOf result Outside → (start : List (ThePair D D.Fault)) (c : TheCluster) → Refines D.told D.means start disks.old.items self.old c → IsOutside c line.now × Holds D.told D.means start disks.new.items c }
+        ensures broken { IsErrOf result OutOfMemory → (start : List (ThePair D D.Fault)) (c : TheCluster) → Refines D.told D.means start disks.old.items self.old c → (reached : TheCluster) × MayReach c line.now reached × Holds D.told D.means start disks.new.items reached }
     {
         refined_clusters_stand::<D>();
         self.step_on(alloc, &mut disks[0], line, text)
@@ -105,7 +102,7 @@ impl World {
         requires ready { ServerReady D.told D.means disks.old self.old.host }
         ensures ok { OnOk result (Does D.told D.means line.now disks.old disks.new self.old self.new text.old.items text.new.items) }
         ensures ready { OnOk result (ServerReady D.told D.means disks.new self.new.host) }
-        ensures outside { IsErrOf result Outside → (start : ThePair D D.Fault) (c : TheCluster) → ShowsCluster D.told D.means start disks.old self.old c → IsOutside c line.now }
+        ensures outside { IsErrOf result Outside → (start : ThePair D D.Fault) (c : TheCluster) → RefinesCluster D.told D.means start disks.old self.old c → IsOutside c line.now }
         ensures untouched { IsErrOf result Outside → disks.new ≡ disks.old }
         ensures broken { IsErrOf result OutOfMemory → Breaks D.told D.means line.now disks.old disks.new self.old }
     {

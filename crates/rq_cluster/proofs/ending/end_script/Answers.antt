@@ -6,10 +6,10 @@ use Rattle.rq_script.specs.ScriptText.{pending_text}
 use Rattle.rq_cluster.specs.LastLines.{stopped_line}
 use Rattle.rq_cluster.specs.Outcome.{Ends, BrokenOff, Wrote}
 use Rattle.rq_cluster.specs.Feed.{StopsKept, AtEnd}
-use Rattle.rq_cluster.specs.Refines.{Shows, pending_in}
+use Rattle.rq_cluster.specs.Refines.{Refines, pending_in}
 use Rattle.rq_cluster.specs.Recovery.{Holds}
 use Rattle.rq_cluster.proofs.Finishing.{finished, map_took, cut_sink, cut_memory}
-use Rattle.rq_cluster.proofs.Showing.{shows_ending, shows_started}
+use Rattle.rq_cluster.proofs.Refining.{refines_ending, refines_started}
 use Rattle.rq_cluster.proofs.ending.end_script.Goals as goal
 
 not_started : (a b : Bool) → a ≡ false → a ≡ b → b ≡ true → ⊥
@@ -25,9 +25,9 @@ returns-then-is_started-clause-wrote g c start read text s =
     let K = Holds g.D.Disk.told g.D.Disk.means start pairs in
     let last = flat_map pending_text (pending_in world.host) in
     finished read [] ⊥ K told t0 t1 (g.K.Sink.taken c.give_ending.new.sink) 0 last text c.give_ending.result
-    (map_took told t0 t1 (λ out. (w : Cluster) × AtEnd (lines_of read) (text ++ out) w c.in-Ok.number × Shows g.D.Disk.told g.D.Disk.means start pairs world w) (λ out. Ends read [] ⊥ K 0 (text ++ out) last)
-    (λ out a. subst (λ (l : List ℕ). Ends read [] ⊥ K 0 (text ++ out) l) (sym (shows_ending g.D.Disk.told g.D.Disk.means start pairs world a.0 a.2))
-    (Ends.done (text ++ out) a.0 a.1.runs (sym (shows_started g.D.Disk.told g.D.Disk.means start pairs world a.0 a.2) ∙ sym c.is_started.ensures ∙ c.if-is_started.true)
+    (map_took told t0 t1 (λ out. (w : Cluster) × AtEnd (lines_of read) (text ++ out) w c.in-Ok.number × Refines g.D.Disk.told g.D.Disk.means start pairs world w) (λ out. Ends read [] ⊥ K 0 (text ++ out) last)
+    (λ out a. subst (λ (l : List ℕ). Ends read [] ⊥ K 0 (text ++ out) l) (sym (refines_ending g.D.Disk.told g.D.Disk.means start pairs world a.0 a.2))
+    (Ends.done (text ++ out) a.0 a.1.runs (sym (refines_started g.D.Disk.told g.D.Disk.means start pairs world a.0 a.2) ∙ sym c.is_started.ensures ∙ c.if-is_started.true)
     (c.refined_clusters_stand.ensures start pairs world a.0 a.2)))
     (c.in-Ok.ensures.ok start read text s))
     c.give_ending.ensures.wrote
@@ -42,9 +42,9 @@ returns-else-is_started-clause-wrote g c start read text s =
     let t1 = g.K.Sink.taken c.last_held.new.sink in
     let K = Holds g.D.Disk.told g.D.Disk.means start pairs in
     finished read [] ⊥ K told t0 t1 (g.K.Sink.taken c.stop_at.new.sink) 3 (stopped_line n) text c.stop_at.result
-    (map_took told t0 t1 (λ out. (w : Cluster) × AtEnd (lines_of read) (text ++ out) w n × Shows g.D.Disk.told g.D.Disk.means start pairs world w) (λ out. Ends read [] ⊥ K 3 (text ++ out) (stopped_line n))
+    (map_took told t0 t1 (λ out. (w : Cluster) × AtEnd (lines_of read) (text ++ out) w n × Refines g.D.Disk.told g.D.Disk.means start pairs world w) (λ out. Ends read [] ⊥ K 3 (text ++ out) (stopped_line n))
     (λ out a. Ends.outside n (text ++ out) a.0 (subst (λ (k : ℕ). StopsAt (lines_of read) k (text ++ out) a.0) (sym a.1.number_is) (StopsAt.at_end (text ++ out) a.0 a.1.runs
-    (not_started (is_some world.host) (is_some a.0.server) (sym c.is_started.ensures ∙ c.if-is_started.false) (shows_started g.D.Disk.told g.D.Disk.means start pairs world a.0 a.2))))
+    (not_started (is_some world.host) (is_some a.0.server) (sym c.is_started.ensures ∙ c.if-is_started.false) (refines_started g.D.Disk.told g.D.Disk.means start pairs world a.0 a.2))))
     (c.refined_clusters_stand.ensures start pairs world a.0 a.2))
     (c.in-Ok.ensures.ok start read text s))
     c.stop_at.ensures.wrote

@@ -3,7 +3,7 @@ use Rattle.rq_script.specs.Cluster.{Cluster, Steps, IsOutside}
 use Rattle.rq_script.specs.Lines.{lines_of}
 use Rattle.rq_cluster.specs.declared.feeding.Stop.TheVariants.{Outside as StopOutside}
 use Rattle.rq_cluster.specs.Feed.{AtEnd, PartOf, StopsKept}
-use Rattle.rq_cluster.specs.Refines.{Shows}
+use Rattle.rq_cluster.specs.Refines.{Refines}
 use Rattle.rq_cluster.specs.Recovery.{Holds}
 use Rattle.rq_cluster.proofs.Pieces.{unwritten, of_other}
 use Rattle.rq_cluster.proofs.Finishing.{end_none, end_some, out_some, part_some}
@@ -20,7 +20,7 @@ returns-then-is_empty-clause-ok g c start read text s =
     let sh = c.args.progress.now in
     let taken = g.K.Sink.taken c.args.sink.now in
     let none : length sh.held.items ≡ 0 = omega (arith, sh.held.ok.0, is_none c.is_empty.result sh.held.len c.is_empty.ensures c.if-is_empty.true) in
-    unwritten g.K.Sink.told taken taken (λ (t : List ℕ). (w : Cluster) × AtEnd (lines_of read) t w sh.number × Shows g.D.Disk.told g.D.Disk.means start c.args.disks.now.items sh.world w) text (λ t. refl)
+    unwritten g.K.Sink.told taken taken (λ (t : List ℕ). (w : Cluster) × AtEnd (lines_of read) t w sh.number × Refines g.D.Disk.told g.D.Disk.means start c.args.disks.now.items sh.world w) text (λ t. refl)
     (s.0, end_none read text s.0 sh.number sh.held.items sh.read s.1 none, s.2)
 
 pub returns-in-Ok-clause-ok : goal.returns-in-Ok-clause-ok

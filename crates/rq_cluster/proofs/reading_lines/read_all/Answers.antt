@@ -22,7 +22,7 @@ returns-in-Err-clause-part g c told =
     subst (λ (l : List ℕ). Stopped g.D.Disk.told g.D.Disk.means p0 p1 g.K.Sink.told (taken c.args.sink.now) (taken c.reading.sink) c.args.progress.now l P) (sym r.1)
     (broken_after g.D.Disk.told g.D.Disk.means p0 p1 g.K.Sink.told (taken c.args.sink.now) (taken c.reading.sink) c.args.progress.now c.reading.progress
     r.0 (g.S.Source.left c.reading.source)
-    (λ start w shows. c.refined_clusters_stand.ensures start p1 c.reading.progress.world w shows) r.2)
+    (λ start w refines. c.refined_clusters_stand.ensures start p1 c.reading.progress.world w refines) r.2)
 
 pub returns-in-Ok-eq0-clause-ok : goal.returns-in-Ok-eq0-clause-ok
 returns-in-Ok-eq0-clause-ok g c told =

@@ -3,7 +3,7 @@ use Rattle.rq_script.specs.ReadLine.{action_read}
 use Rattle.rq_script.specs.ScriptLine.{At}
 use Rattle.rq_cluster.specs.Refines.{with_host}
 use Rattle.rq_cluster.proofs.Servers.{done_ok, done_breaks, stop_here, arm_here, start_here, show_here, shown_goes}
-use Rattle.rq_cluster.proofs.Showing.{host_stands}
+use Rattle.rq_cluster.proofs.Refining.{host_stands}
 use Rattle.rq_cluster.proofs.Worlds.{breaks_untouched}
 use Rattle.rq_cluster.proofs.world.act_at.Goals as goal
 

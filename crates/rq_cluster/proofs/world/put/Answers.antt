@@ -1,11 +1,11 @@
-use Rattle.std.proofs.Common.{◌≡◌, Option, refl}
+use Rattle.std.proofs.Common.{refl}
 use Rattle.rq_node.specs.declared.event.Event.{Event}
 use Rattle.rq_script.specs.ReadLine.{action_read}
 use Rattle.rq_script.specs.ScriptLine.{At}
 use Rattle.rq_cluster.specs.Events.{Puts, PutsNothing}
 use Rattle.rq_cluster.specs.Refines.{with_host}
 use Rattle.rq_cluster.proofs.Servers.{of_some, of_none, put_ok, put_breaks, put_outside}
-use Rattle.rq_cluster.proofs.Showing.{host_stands}
+use Rattle.rq_cluster.proofs.Refining.{host_stands}
 use Rattle.rq_cluster.proofs.Worlds.{breaks_untouched}
 use Rattle.rq_cluster.proofs.world.put.Goals as goal
 

@@ -7,10 +7,10 @@ use Rattle.rq_cluster.proofs.Turns.{some_of}
 use Rattle.rq_cluster.proofs.host.Host.arm.Goals as goal
 
 pub returns-clause-ok : goal.returns-clause-ok
-returns-clause-ok g c = λ bytes start s shows.
+returns-clause-ok g c = λ bytes start s refines.
     let told = g.D.Disk.told in
     let means = g.D.Disk.means in
     let same : SameDisks c.args.disks.now c.arm.new.self = (c.arm.ensures.one, c.arm.ensures.two) in
     let runs = some_of c.args.self.now.node c.requires.running in
     let ready = subst (λ (o : Option RunningNode). NodeReady told means c.args.disks.now o) runs.1 c.requires.ready in
-    arms_server told means start c.args.disks.now c.args.self.now _ s shows c.arm.new.self runs.0 c.args.arming same runs.1 refl c.arm.ensures.arm (open_same told means c.args.disks.now c.arm.new.self runs.0 same ready) bytes
+    arms_server told means start c.args.disks.now c.args.self.now _ s refines c.arm.new.self runs.0 c.args.arming same runs.1 refl c.arm.ensures.arm (open_same told means c.args.disks.now c.arm.new.self runs.0 same ready) bytes

@@ -1,4 +1,4 @@
-use Rattle.std.proofs.Common.{◌≡◌, ℕ, List, subst}
+use Rattle.std.proofs.Common.{ℕ, List, subst}
 use Rattle.rq_script.specs.ReadLine.{action_read}
 use Rattle.rq_script.specs.ScriptLine.{At}
 use Rattle.rq_cluster.specs.declared.world.World.{World}
