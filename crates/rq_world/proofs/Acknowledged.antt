@@ -2,10 +2,11 @@
 use Rattle.std.proofs.Common.{◌≡◌, ◌<◌, ◌≤◌, ℕ, zero, suc, ◌+◌, ◌-◌, ◌==◌, ◌&&◌, max, nat_eq, List, [], ◌∷◌, ◌++◌, length, slice_get, Bool, true, false, if◌then◌else◌, Option, Some, None, refl, sym, ◌∙◌, ap, subst, inl, inr, ⊎_elim, arith}
 use Rattle.std.specs.Prelude.{nat_le}
 use Rattle.std.proofs.lemmas.List.{append-nil, append_assoc}
+use Rattle.rq_wire.specs.declared.config.Member.{Member}
 use Rattle.rq_statement.specs.declared.item.Item.{Item}
 use Rattle.rq_statement.specs.declared.res.Res.{Res}
-use Rattle.rq_world.specs.declared.say.Say.{Say}
-use Rattle.rq_world.specs.declared.say.Say.TheVariants.{Results}
+use Rattle.rq_request.specs.declared.say.Say.{Say}
+use Rattle.rq_request.specs.declared.say.Say.TheVariants.{Results}
 use Rattle.rq_history.specs.History.{NodeId, Node as HistoryNode, History, now, Was, term_at}
 use Rattle.rq_history.specs.Laws.{LaterEntriesCover}
 use Rattle.rq_raft.specs.Entries.{entry_view, voters}
@@ -14,9 +15,9 @@ use Rattle.rq_raft.specs.declared.role.Role.{Role}
 use Rattle.rq_raft.specs.declared.role.Role.TheVariants.{Follower, Candidate, Leader}
 use Rattle.rq_raft.specs.Node.{is_leader}
 use Rattle.rq_world.specs.declared.log_entry.LogEntry.{LogEntry}
-use Rattle.rq_world.specs.declared.log_entry.Content.{Content}
-use Rattle.rq_world.specs.declared.level.Level.{Level}
-use Rattle.rq_world.specs.declared.level.Level.TheVariants as level
+use Rattle.rq_statement.specs.declared.command.Command.{Command}
+use Rattle.rq_request.specs.declared.ask.Level.{Level}
+use Rattle.rq_request.specs.declared.ask.Level.TheVariants as level
 use Rattle.rq_world.specs.declared.waiting.Waiting.{Waiting}
 use Rattle.rq_world.specs.Node.{Pass, PendingRead, Node, log_entries, Turn}
 use Rattle.rq_world.specs.Reads.{is_confirmed, is_ready}
@@ -30,7 +31,7 @@ use Rattle.rq_world.proofs.Given.{Given}
 use Rattle.rq_world.proofs.Safety.{here}
 use Rattle.rq_world.proofs.Simulation.{Choice, raft_in, sim, was_at}
 use Rattle.rq_world.proofs.Histories.{RightNote, all_get, right_op, op_kept}
-use Rattle.rq_world.proofs.Waits.{entry_of, ContentFits as FitsEntry, Waits}
+use Rattle.rq_world.proofs.Waits.{entry_of, CommandFits as FitsEntry, Waits}
 use Rattle.rq_world.proofs.Promises.{Serves, Sound, sound}
 use Rattle.rq_world.proofs.Passes.{Known}
 use Rattle.rq_world.proofs.Covering.{Acted, Still, kind, t, pr, runs_next, who_runs, since, pass_covers}
@@ -85,8 +86,8 @@ leads_yes Candidate e = absurd (cc)
 leads_yes Leader e = refl
 
 -- what waits waits at a leader
-pub has_lead : (book : List Note) (n : Node) → Serves book n → (w : Waiting) → HasWaiting w n.waiting → n.raft.role ≡ Leader
-has_lead book n s w h = go n.raft.role refl
+pub has_lead : (first : List Member) (book : List Note) (n : Node) → Serves first book n → (w : Waiting) → HasWaiting w n.waiting → n.raft.role ≡ Leader
+has_lead first book n s w h = go n.raft.role refl
   where
     nobody : n.waiting ≡ [] → Prim.⊥
     nobody none = subst (HasWaiting w) none h
@@ -250,7 +251,7 @@ module _ (g : Given) (known : Known g) (later : LaterEntriesCover (entry_view lo
 
     waiting_from : (w : Waiting) → turn.node.raft.role ≡ Leader → WaitingFrom g a.node a.act w → w.sequence ≡ None → WaitBegun (Then run e) a.who turn.node.raft.term w
     waiting_from w lead (inl h) none =
-        let leads = has_lead (book_of g known run) a.node (s.serve a.who a.node a.runs) w h in
+        let leads = has_lead g.first (book_of g known run) a.node (s.serve a.who a.node a.runs) w h in
         subst (λ (k : ℕ). WaitBegun (Then run e) a.who k w) (sym ((pr g known run e a).on leads lead)) (wait_on run e a.who a.node.raft.term w (b.waitings a.who a.node a.runs w h none))
     waiting_from w lead (inr (inr n)) none = absurd (differ (sym n.sequence ∙ none))
       where
@@ -273,7 +274,7 @@ module _ (g : Given) (known : Known g) (later : LaterEntriesCover (entry_view lo
           (who_runs g known run e a j m up);
       waitings = λ j m up w h none. ⊎_elim
           (λ (p : (j ≡ a.who) × (turn.node ≡ m)).
-          let lead = has_lead (book_of g known (Then run e)) m (next.serve j m up) w h in
+          let lead = has_lead g.first (book_of g known (Then run e)) m (next.serve j m up) w h in
           subst (λ (y : Node). WaitBegun (Then run e) j y.raft.term w) p.1 (subst (λ (i : NodeId). WaitBegun (Then run e) i turn.node.raft.term w) (sym p.0)
           (waiting_from w (subst (λ (y : Node). y.raft.role ≡ Leader) (sym p.1) lead) (gives.waitings w (subst (λ (y : Node). HasWaiting w y.waiting) (sym p.1) h)) none)))
           (λ (o : Runs g.first run j m). wait_on run e j m.raft.term w (b.waitings j m o w h none))
@@ -316,8 +317,8 @@ module _ (g : Given) (known : Known g) (later : LaterEntriesCover (entry_view lo
       let np = numbered_past p q st.past numbered in
       let s = sound g known.lead_on p np in
       let at : slice_get (book_of g known p) a.k ≡ Some (Answered a.write a.say index) = subst (λ (l : List Note). slice_get l a.k ≡ Some (Answered a.write a.say index)) st.before a.noted in
-      let right = subst (RightNote (chosen g.first p) (book_of g known p)) at (all_get (chosen g.first p) (book_of g known p) (book_of g known p) a.k s.right) in
-      let o = right_op (chosen g.first p) (op_of (book_of g known p) a.write) a.say index right in
+      let right = subst (RightNote g.first (chosen g.first p) (book_of g known p)) at (all_get g.first (chosen g.first p) (book_of g known p) (book_of g known p) a.k s.right) in
+      let o = right_op g.first (chosen g.first p) (op_of (book_of g known p) a.write) a.say index right in
       let l = book_past p q st.past in
       let kept = ap (λ (b : List Note). op_of b a.write) l.1 ∙ op_kept (book_of g known p) l.0 a.write o.0 o.1 in
       committed p np a.k a.write index a.say (at, subst (λ (x : Option Op). IsAcknowledged x a.say) (kept ∙ sym o.1) a.is_write)
@@ -389,24 +390,24 @@ module _ (g : Given) (known : Known g) (later : LaterEntriesCover (entry_view lo
 
     -- a read that waits for its entry wasn't queued
     next_entry : (m number place : ℕ) (items : List Item) (l : Level) (limit : Option ℕ) → op_of (book_of g known q) number ≡ Some (Read items l limit) → (n : IsNext g a.node a.act tn.raft m number place)
-        → ((c : Content) × (entry_of (Read items l limit) ≡ Some c)) × (n.waiting.sequence ≡ None)
+        → ((c : Command) × (entry_of (Read items l limit) ≡ Some c)) × (n.waiting.sequence ≡ None)
     next_entry m number place items l limit is n =
         let waits = wait_get (book_of g known run) a.node.raft.log a.node.raft.term a.node.waiting m n.waiting (s2.serve a.who a.node a.runs).waits n.found in
         let l2 = book_next run e in
         let kept : op_of (book_of g known q) number ≡ Some waits.op = ap (op_of (book_of g known q)) (sym n.number_is) ∙ ap (λ (b : List Note). op_of b n.waiting.number) l2.1 ∙ op_kept (book_of g known run) l2.0 n.waiting.number waits.op waits.asked in
-        own waits.entry.content n.waiting.position n.waiting.sequence (subst (λ (o : Op). FitsEntry o n.waiting.position n.waiting.sequence waits.entry.content) (same_op number waits.op (Read items l limit) kept is) waits.fits)
+        own waits.entry.command n.waiting.position n.waiting.sequence (subst (λ (o : Op). FitsEntry o n.waiting.position n.waiting.sequence waits.entry.command) (same_op number waits.op (Read items l limit) kept is) waits.fits)
       where
-        own : (c : Content) (position : ℕ) (s : Option ℕ) → FitsEntry (Read items l limit) position s c → ((c : Content) × (entry_of (Read items l limit) ≡ Some c)) × (s ≡ None)
+        own : (c : Command) (position : ℕ) (s : Option ℕ) → FitsEntry (Read items l limit) position s c → ((c : Command) × (entry_of (Read items l limit) ≡ Some c)) × (s ≡ None)
         own c position None f = ((c, f.0), refl)
         own c position (Some k) f = absurd (differ f.is_queue)
           where
-            differ : {i : List Item} → Read items l limit ≡ Queue i true → Prim.⊥
+            differ : {i : Rattle.rq_statement.specs.Statements.Statements} → Read items l limit ≡ Queue i true → Prim.⊥
             differ e = cc
 
     no_entry : (m number place : ℕ) (items : List Item) (l : Level) (limit : Option ℕ) → op_of (book_of g known q) number ≡ Some (Read items l limit) → entry_of (Read items l limit) ≡ None → IsNext g a.node a.act tn.raft m number place → Prim.⊥
     no_entry m number place items l limit is none n = let c = next_entry m number place items l limit is n in differ (sym none ∙ c.0.1)
       where
-        differ : {c : Content} → None ≡ Some c → Prim.⊥
+        differ : {c : Command} → None ≡ Some c → Prim.⊥
         differ e = cc
 
     not_due : (number place : ℕ) (op : Op) → op_of (book_of g known q) number ≡ Some op → (d : IsDue g a.node a.act tn.raft number place) → (k : Option ℕ) × (Read d.reading.items level.Linearizable k ≡ op)
@@ -503,8 +504,8 @@ module _ (g : Given) (known : Known g) (later : LaterEntriesCover (entry_view lo
       let before = before_more (book_of g known run) l number op is in
       let noted = subst (λ (b : List Note). slice_get b a.k ≡ Some (Answered a.write a.say index)) before a.noted in
       let at = before_get (book_of g known run) number a.k (Answered a.write a.say index) noted in
-      let right = subst (RightNote (chosen g.first run) (book_of g known run)) at (all_get (chosen g.first run) (book_of g known run) (book_of g known run) a.k s.right) in
-      let o = right_op (chosen g.first run) (op_of (book_of g known run) a.write) a.say index right in
+      let right = subst (RightNote g.first (chosen g.first run) (book_of g known run)) at (all_get g.first (chosen g.first run) (book_of g known run) (book_of g known run) a.k s.right) in
+      let o = right_op g.first (chosen g.first run) (op_of (book_of g known run) a.write) a.say index right in
       record { k = a.k; write = a.write; say = a.say; noted = noted; is_write = subst (λ (x : Option Op). IsAcknowledged x a.say) (op_kept (book_of g known run) l a.write o.0 o.1 ∙ sym o.1) a.is_write }
 
   covers_on : (run : Events) (l : List Note) (number place : ℕ) (op : Op) (v : Level) → IsNumbered g.first run → op_of (book_of g known run) number ≡ Some op → Covers (book_of g known run) number v place → Covers (book_of g known run ++ l) number v place
@@ -543,8 +544,8 @@ module _ (g : Given) (known : Known g) (later : LaterEntriesCover (entry_view lo
           → Promised (Then run e) k number place results (Read items v limit) v
       by_note l book fresh old = ⊎_elim
           (λ (o : slice_get (book_of g known run) k ≡ Some (Answered number (Results results) place)).
-          let right = subst (RightNote (chosen g.first run) (book_of g known run)) o (all_get (chosen g.first run) (book_of g known run) (book_of g known run) k s.right) in
-          let x = right_op (chosen g.first run) (op_of (book_of g known run) number) (Results results) place right in
+          let right = subst (RightNote g.first (chosen g.first run) (book_of g known run)) o (all_get g.first (chosen g.first run) (book_of g known run) (book_of g known run) k s.right) in
+          let x = right_op g.first (chosen g.first run) (op_of (book_of g known run) number) (Results results) place right in
           let op : op_of (book_of g known run) number ≡ Some (Read items v limit) = x.1 ∙ sym (op_kept (book_of g known run) l number x.0 x.1) ∙ ap (λ (b : List Note). op_of b number) (sym book) ∙ is in
           let p = old o op in
           (subst (λ (b : List Note). Covers b number v place) (sym book) (covers_on run l number place (Read items v limit) v numbered.0 op p.0), placed_on run e k number place results (Read items v limit) v p.1))
@@ -554,6 +555,6 @@ module _ (g : Given) (known : Known g) (later : LaterEntriesCover (entry_view lo
   pub each_read : EachReadCovers g.first
   each_read run numbered k number place results items v limit at is =
       let s = sound g known.lead_on run numbered in
-      let right = subst (RightNote (chosen g.first run) (book_of g known run)) at (all_get (chosen g.first run) (book_of g known run) (book_of g known run) k s.right) in
+      let right = subst (RightNote g.first (chosen g.first run) (book_of g known run)) at (all_get g.first (chosen g.first run) (book_of g known run) (book_of g known run) k s.right) in
       let p = promised run numbered k number place results items v limit at is in
-      (subst (λ (o : Option Op). Rattle.rq_world.specs.Promise.IsRight (chosen g.first run) o (Results results) place) is right, p.0, p.1)
+      (subst (λ (o : Option Op). Rattle.rq_world.specs.Promise.IsRight g.first (chosen g.first run) o (Results results) place) is right, p.0, p.1)

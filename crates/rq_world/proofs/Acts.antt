@@ -1,10 +1,11 @@
 -- Each act of a node is a turn of rq_raft, and so a list of moves.
 use Rattle.std.proofs.Common.{◌≡◌, ℕ, suc, zero, ◌&&◌, not, Bool, true, false, cond, List, [], ◌∷◌, length, ◌+◌, Option, Some, None, refl, ap, sym, subst, ◌∙◌}
 use Rattle.std.specs.Prelude.{◌==◌, nat_lt, nat_le, drop, bytes_eq, slice_get}
+use Rattle.rq_statement.specs.Statements.{Statements}
 use Rattle.rq_statement.specs.declared.item.Item.{Item}
-use Rattle.rq_world.specs.declared.say.Say.TheVariants.{NoLeader, Stale, EntryTooLarge, QueuedTooLarge, Full}
-use Rattle.rq_statement.specs.Bytes.{execute_bytes}
-use Rattle.rq_world.specs.Commands.{strong_query_bytes}
+use Rattle.rq_request.specs.declared.say.Say.TheVariants.{Refused}
+use Rattle.rq_request.specs.declared.say.NodeRefusal.TheVariants.{NoLeader, Stale, EntryTooLarge, QueuedTooLarge, QueueFull}
+use Rattle.rq_statement.specs.Bytes.{command_bytes}
 use Rattle.rq_history.specs.History.{NodeId, History}
 use Rattle.rq_raft.specs.Node.{RaftNode, Message, VoteAsk, VoteSay, Append, AppendSay, Install, InstallSay, Packet, StoredRecord, Vote, RaftTurn, unchanged as raft_quiet, same_vote, all_stored, is_leader}
 use Rattle.rq_raft.specs.Lead as lead
@@ -13,14 +14,14 @@ use Rattle.rq_raft.specs.Deliver as deliver
 use Rattle.rq_raft.specs.Install as install
 use Rattle.rq_raft.specs.Truth.{MessageIsTrue, PacketsAreTrue, Refines, IsMoves}
 use Rattle.rq_world.specs.declared.log_entry.LogEntry.{LogEntry}
-use Rattle.rq_world.specs.declared.log_entry.Content.{Content}
-use Rattle.rq_world.specs.declared.log_entry.Content.TheVariants.{Execute, StrongQuery}
+use Rattle.rq_statement.specs.declared.command.Command.{Command}
+use Rattle.rq_statement.specs.declared.command.Command.TheVariants.{Execute, StrongQuery}
 use Rattle.rq_world.specs.declared.waiting.Waiting.{Waiting}
-use Rattle.rq_world.specs.declared.level.Level.{Level}
-use Rattle.rq_world.specs.declared.level.Level.TheVariants as level
-use Rattle.rq_world.specs.Node.{QueuedWrite, Node, log_entries, Turn, unchanged, says}
+use Rattle.rq_request.specs.declared.ask.Level.{Level}
+use Rattle.rq_request.specs.declared.ask.Level.TheVariants as level
+use Rattle.rq_world.specs.Node.{QueuedWrite, Node, log_entries, Turn, unchanged, says, replica_of}
 use Rattle.rq_world.specs.Reads.{begin, is_stale, limit_of}
-use Rattle.rq_world.specs.Rules.{max_command_bytes, stays_on, steps_down, raft_turn, reads, counts, with_reads, restored, receive, max_queued_bytes, queue_capacity, max_batch, appends, appended_for, enqueued, if_not_full, if_not_too_large, enqueue, batch, batch_waits, batch_entry, flushed, flush, proposed, if_leads, execute, query, query_if_fresh, begun, read, tick, applied_raft, applied_content, applied_entry, apply, compact}
+use Rattle.rq_world.specs.Rules.{max_command_bytes, stays_on, steps_down, raft_turn, reads, counts, with_reads, restored, receive, max_queued_bytes, queue_capacity, max_batch, appends, appended_for, enqueued, if_not_full, if_not_too_large, enqueue, batch, batch_waits, batch_entry, flushed, flush, proposed, if_leads, query, query_if_fresh, begun, read, tick, applied_raft, applied_command, applied_entry, apply, compact, write, write_command}
 use Rattle.rq_world.specs.World.{Write, Queue, Read, Act, Ask, Elect, Beat, Flush, Apply, Compact, Deliver, Tick, Idle, act}
 use Rattle.rq_world.proofs.Tests.{if_case, eq_self, id_self, id_true}
 use Rattle.rq_world.proofs.Given.{Given, Run}
@@ -75,13 +76,13 @@ module _ (g : Given) where
     moves = g.moves.proposes h i n.raft entry l f term (λ e. absurd (cc));
   }
 
-  proposed_acts : (h : History LogEntry) (i : NodeId) (n : Node) (number moment timeout : ℕ) (content : Content) (size : ℕ) → Run g h → Refines log_entries h i n.raft → Acts g h i n (proposed g.first n number moment timeout content size)
-  proposed_acts h i n number moment timeout content size l f = if_case (Acts g h i n) (nat_lt max_command_bytes size) (says n number (EntryTooLarge size)) (appended_for g.first n number moment timeout (record { term = n.raft.term; content = content }))
-      (λ q. same_acts h i n (says n number (EntryTooLarge size)) l f refl refl refl)
-      (λ q. appends_acts h i n (record { term = n.raft.term; content = content }) (record { index = length n.raft.log + 1; number = number; asked = moment; timeout = timeout; position = 0; sequence = None } ∷ []) n.queue refl l f)
+  proposed_acts : (h : History LogEntry) (i : NodeId) (n : Node) (number moment timeout : ℕ) (command : Command) (size : ℕ) → Run g h → Refines log_entries h i n.raft → Acts g h i n (proposed g.first n number moment timeout command size)
+  proposed_acts h i n number moment timeout command size l f = if_case (Acts g h i n) (nat_lt max_command_bytes size) (says n number (Refused (EntryTooLarge size))) (appended_for g.first n number moment timeout (record { term = n.raft.term; command = command }))
+      (λ q. same_acts h i n (says n number (Refused (EntryTooLarge size))) l f refl refl refl)
+      (λ q. appends_acts h i n (record { term = n.raft.term; command = command }) (record { index = length n.raft.log + 1; number = number; asked = moment; timeout = timeout; position = 0; sequence = None } ∷ []) n.queue refl l f)
 
   led_acts : (h : History LogEntry) (i : NodeId) (n : Node) (number : ℕ) (t : Turn) → Run g h → Refines log_entries h i n.raft → Acts g h i n t → Acts g h i n (if_leads g.first n number t)
-  led_acts h i n number t l f a = if_case (Acts g h i n) (is_leader n.raft.role) t (says n number (NoLeader n.raft.term)) (λ q. a) (λ q. same_acts h i n (says n number (NoLeader n.raft.term)) l f refl refl refl)
+  led_acts h i n number t l f a = if_case (Acts g h i n) (is_leader n.raft.role) t (says n number (Refused (NoLeader n.raft.term))) (λ q. a) (λ q. same_acts h i n (says n number (Refused (NoLeader n.raft.term))) l f refl refl refl)
 
   reads_acts : (h : History LogEntry) (i : NodeId) (n : Node) (t : Turn) → Acts g h i n t → Acts g h i n (reads g.first t)
   reads_acts h i n t a = record { raft = a.raft; is = record { node = a.is.node; durable_is = a.is.durable_is; packets = a.is.packets }; moves = a.moves }
@@ -90,8 +91,8 @@ module _ (g : Given) where
   begun_acts h i n number moment timeout items l f = record { raft = begin g.first n.raft; is = record { node = refl; durable_is = refl; packets = refl }; moves = g.moves.beats h i n.raft l f }
 
   fresh_acts : (h : History LogEntry) (i : NodeId) (n : Node) (number moment : ℕ) (items : List Item) (limit : Option ℕ) → Run g h → Refines log_entries h i n.raft → Acts g h i n (query_if_fresh g.first n number moment items limit)
-  fresh_acts h i n number moment items limit l f = if_case (Acts g h i n) (is_stale n.raft limit moment) (says n number (Stale n.raft.contact moment (limit_of limit))) (query g.first n number items)
-      (λ q. same_acts h i n (says n number (Stale n.raft.contact moment (limit_of limit))) l f refl refl refl)
+  fresh_acts h i n number moment items limit l f = if_case (Acts g h i n) (is_stale n.raft limit moment) (says n number (Refused (Stale n.raft.contact moment (limit_of limit)))) (query g.first n number items)
+      (λ q. same_acts h i n (says n number (Refused (Stale n.raft.contact moment (limit_of limit)))) l f refl refl refl)
       (λ q. same_acts h i n (query g.first n number items) l f refl refl refl)
 
   read_acts : (h : History LogEntry) (i : NodeId) (n : Node) (number moment timeout : ℕ) (items : List Item) (l : Level) (limit : Option ℕ) → Run g h → Refines log_entries h i n.raft → Acts g h i n (read g.first n number moment timeout items l limit)
@@ -101,23 +102,24 @@ module _ (g : Given) where
       let t = begun g.first n number moment timeout items (begin g.first n.raft) in
       led_acts h i n number (reads g.first t) l f (reads_acts h i n t (begun_acts h i n number moment timeout items l f))
   read_acts h i n number moment timeout items level.Strong limit l f =
-      let size = length (strong_query_bytes items) in
+      let size = length (command_bytes (StrongQuery items)) in
       led_acts h i n number (proposed g.first n number moment timeout (StrongQuery items) size) l f (proposed_acts h i n number moment timeout (StrongQuery items) size l f)
 
-  execute_acts : (h : History LogEntry) (i : NodeId) (n : Node) (number moment timeout : ℕ) (items : List Item) → Run g h → Refines log_entries h i n.raft → Acts g h i n (execute g.first n number moment timeout items)
-  execute_acts h i n number moment timeout items l f =
-      let size = length (execute_bytes items) in
-      led_acts h i n number (proposed g.first n number moment timeout (Execute items) size) l f (proposed_acts h i n number moment timeout (Execute items) size l f)
+  write_acts : (h : History LogEntry) (i : NodeId) (n : Node) (number moment timeout : ℕ) (list : Statements) (mixed : Bool) → Run g h → Refines log_entries h i n.raft → Acts g h i n (write g.first n number moment timeout list mixed)
+  write_acts h i n number moment timeout list mixed l f =
+      let command = write_command list mixed in
+      let size = length (command_bytes command) in
+      led_acts h i n number (proposed g.first n number moment timeout command size) l f (proposed_acts h i n number moment timeout command size l f)
 
-  queued_acts : (h : History LogEntry) (i : NodeId) (n : Node) (number moment timeout : ℕ) (items : List Item) (waits : Bool) → Run g h → Refines log_entries h i n.raft → Acts g h i n (enqueue g.first n number moment timeout items waits)
-  queued_acts h i n number moment timeout items waits l f =
-      let size = length (execute_bytes items) in
+  queued_acts : (h : History LogEntry) (i : NodeId) (n : Node) (number moment timeout : ℕ) (list : Statements) (waits : Bool) → Run g h → Refines log_entries h i n.raft → Acts g h i n (enqueue g.first n number moment timeout list waits)
+  queued_acts h i n number moment timeout list waits l f =
+      let size = length (command_bytes (Execute list)) in
       let held = length n.queue in
-      let t = enqueued g.first n number moment timeout items waits in
+      let t = enqueued g.first n number moment timeout list waits in
       led_acts h i n number (if_not_too_large g.first n number size (if_not_full g.first n number t)) l f
-      (if_case (Acts g h i n) (nat_lt max_queued_bytes size) (says n number (QueuedTooLarge size)) (if_not_full g.first n number t)
-      (λ _. same_acts h i n (says n number (QueuedTooLarge size)) l f refl refl refl)
-      (λ _. if_case (Acts g h i n) (nat_le queue_capacity held) (says n number (Full held)) t (λ _. same_acts h i n (says n number (Full held)) l f refl refl refl) (λ _. same_acts h i n t l f refl refl refl)))
+      (if_case (Acts g h i n) (nat_lt max_queued_bytes size) (says n number (Refused (QueuedTooLarge size))) (if_not_full g.first n number t)
+      (λ _. same_acts h i n (says n number (Refused (QueuedTooLarge size))) l f refl refl refl)
+      (λ _. if_case (Acts g h i n) (nat_le queue_capacity held) (says n number (Refused (QueueFull held))) t (λ _. same_acts h i n (says n number (Refused (QueueFull held))) l f refl refl refl) (λ _. same_acts h i n t l f refl refl refl)))
 
   flush_acts : (h : History LogEntry) (i : NodeId) (n : Node) → Run g h → Refines log_entries h i n.raft → Acts g h i n (flush g.first n)
   flush_acts h i n l f = if_case (Acts g h i n) (is_leader n.raft.role && nat_lt 0 (length n.queue)) (flushed g.first n) (unchanged n)
@@ -135,7 +137,7 @@ module _ (g : Given) where
 
       next : (o : Option LogEntry) → applied ≡ applied_raft n → Acts g h i n (applied_entry g.first n o)
       next None e = same_acts h i n (unchanged n) l f refl refl refl
-      next (Some entry) e = reads_acts h i n (applied_content n entry.content)
+      next (Some entry) e = reads_acts h i n (applied_command n entry.command)
           (record { raft = raft_quiet applied; moves = g.moves.applies h i n.raft l f; is = record { node = sym e; durable_is = sym (stores e); packets = refl } })
 
       go : (b : Bool) → nat_lt n.raft.applied n.raft.commit ≡ b → Acts g h i n (cond b (applied_entry g.first n (slice_get n.raft.log n.raft.applied)) (unchanged n))
@@ -160,13 +162,13 @@ module _ (g : Given) where
       with_acts (VoteSay granted) t a = a
       with_acts (Append prev prev_term commit probe es) t a = a
       with_acts (AppendSay ok at probe) t a = if_case (Acts g h i n) (counts g.first n p at) (reads g.first t) t (λ _. reads_acts h i n t a) (λ _. a)
-      with_acts (Install probe list) t a = if_case (Acts g h i n) (nat_lt n.raft.applied t.node.raft.applied) (record t { node = record t.node { database = Rattle.rq_world.specs.Rules.replica list } }) t
+      with_acts (Install probe list) t a = if_case (Acts g h i n) (nat_lt n.raft.applied t.node.raft.applied) (record t { node = record t.node { replica = replica_of g.first list } }) t
           (λ _. record { raft = a.raft; is = record { node = a.is.node; durable_is = a.is.durable_is; packets = a.is.packets }; moves = a.moves }) (λ _. a)
       with_acts (InstallSay at probe) t a = if_case (Acts g h i n) (counts g.first n p at) (reads g.first t) t (λ _. reads_acts h i n t a) (λ _. a)
 
   pub act_acts : (h : History LogEntry) (i : NodeId) (n : Node) (ps : List (Packet LogEntry)) (moment : ℕ) (a : Act) → Run g h → Refines log_entries h i n.raft → PacketsAreTrue log_entries h ps → Acts g h i n (act g.first ps moment n a)
-  act_acts h i n ps moment (Ask number timeout (Write items)) l f all = execute_acts h i n number moment timeout items l f
-  act_acts h i n ps moment (Ask number timeout (Queue items wait)) l f all = queued_acts h i n number moment timeout items wait l f
+  act_acts h i n ps moment (Ask number timeout (Write list mixed)) l f all = write_acts h i n number moment timeout list mixed l f
+  act_acts h i n ps moment (Ask number timeout (Queue list wait)) l f all = queued_acts h i n number moment timeout list wait l f
   act_acts h i n ps moment (Ask number timeout (Read items level limit)) l f all = read_acts h i n number moment timeout items level limit l f
   act_acts h i n ps moment Elect l f all = turned_acts h i n (vote.elect log_entries g.first n.raft) (g.moves.elects h i n.raft l f)
   act_acts h i n ps moment Beat l f all = turned_acts h i n (lead.beat log_entries g.first n.raft) (g.moves.beats h i n.raft l f)

@@ -1,15 +1,17 @@
 -- Where each answer with results or a sequence number comes from, and each ask that waits.
 use Rattle.std.proofs.Common.{◌≡◌, ◌⊎◌, ◌<◌, ℕ, zero, suc, ◌+◌, ◌==◌, ◌&&◌, not, List, [], ◌∷◌, ◌++◌, length, slice_get, Bool, true, false, if◌then◌else◌, Option, Some, None, refl, sym, ◌∙◌, ap, subst, inl, inr, ⊎_elim, arith}
 use Rattle.std.specs.Prelude.{nat_lt, nat_le, bytes_eq, drop, map, ⊤}
+use Rattle.rq_statement.specs.Statements.{Statements}
 use Rattle.rq_wire.specs.declared.config.Member.{Member}
 use Rattle.rq_statement.specs.declared.item.Item.{Item}
 use Rattle.rq_statement.specs.declared.res.Res.{Res}
-use Rattle.rq_world.specs.declared.say.Say.{Say}
-use Rattle.rq_world.specs.declared.say.Say.TheVariants.{Results, Queued, NoLeader, Lost, Timeout, Stale, EntryTooLarge, QueuedTooLarge, Full}
-use Rattle.rq_world.specs.declared.say.Answer.{Answer}
-use Rattle.rq_statement.specs.Bytes.{execute_bytes}
-use Rattle.rq_world.specs.Commands.{strong_query_bytes}
-use Rattle.rq_engine.specs.Meaning.{answers}
+use Rattle.rq_request.specs.declared.say.Say.{Say}
+use Rattle.rq_request.specs.declared.say.Say.TheVariants.{Results, Queued, Loaded, Backup, Nodes, Ready, Changed, Moved, Refused}
+use Rattle.rq_request.specs.declared.say.NodeRefusal.TheVariants.{NoLeader, Lost, Timeout, Stale, EntryTooLarge, QueuedTooLarge, QueueFull}
+use Rattle.rq_request.specs.declared.say.Answer.{Answer}
+use Rattle.rq_statement.specs.Bytes.{command_bytes}
+use Rattle.rq_engine.specs.declared.outcome.Outcome.{Outcome}
+use Rattle.rq_engine.specs.Fold.{answer, run}
 use Rattle.rq_raft.specs.declared.role.Role.{Role}
 use Rattle.rq_raft.specs.declared.role.Role.TheVariants.{Follower, Candidate, Leader}
 use Rattle.rq_history.specs.History.{NodeId}
@@ -20,14 +22,14 @@ use Rattle.rq_raft.specs.Deliver as deliver
 use Rattle.rq_raft.specs.Laws.{LeadOn, Installed}
 use Rattle.rq_raft.specs.Install as install
 use Rattle.rq_world.specs.declared.log_entry.LogEntry.{LogEntry}
-use Rattle.rq_world.specs.declared.log_entry.Content.{Content}
-use Rattle.rq_world.specs.declared.log_entry.Content.TheVariants.{Execute, StrongQuery}
-use Rattle.rq_world.specs.declared.level.Level.{Level}
-use Rattle.rq_world.specs.declared.level.Level.TheVariants as level
+use Rattle.rq_statement.specs.declared.command.Command.{Command}
+use Rattle.rq_statement.specs.declared.command.Command.TheVariants.{Execute, StrongQuery}
+use Rattle.rq_request.specs.declared.ask.Level.{Level}
+use Rattle.rq_request.specs.declared.ask.Level.TheVariants as level
 use Rattle.rq_world.specs.declared.waiting.Waiting.{Waiting}
-use Rattle.rq_world.specs.Node.{QueuedWrite, PendingRead, Node, log_entries, Turn, unchanged, says}
+use Rattle.rq_world.specs.Node.{QueuedWrite, PendingRead, Node, log_entries, Turn, unchanged, says, replica_of}
 use Rattle.rq_world.specs.Reads.{pass_of, begin, is_due, is_stale, limit_of}
-use Rattle.rq_world.specs.Rules.{max_command_bytes, inserted, by_number, lost_all, is_expired, expired_waiting, expired_reads, queued_is_expired, expired_queued, live_waiting, live_reads, live_queue, tick, max_queued_bytes, queue_capacity, max_batch, immediate_answer, enqueued, if_not_full, if_not_too_large, enqueue, batch, batch_waits, flushed, flush, said, waiting_numbers, answered, still_waiting, outcome_of, steps_down, stays_on, raft_turn, reads, counts, with_reads, restored, due_answers, not_due, receive, appended_for, proposed, if_leads, query, begun, read, applied_content, applied_entry, apply, replica}
+use Rattle.rq_world.specs.Rules.{max_command_bytes, inserted, by_number, lost_all, is_expired, expired_waiting, expired_reads, queued_is_expired, expired_queued, live_waiting, live_reads, live_queue, tick, max_queued_bytes, queue_capacity, max_batch, immediate_answer, enqueued, if_not_full, if_not_too_large, enqueue, batch, batch_waits, flushed, flush, said, waiting_numbers, answered, still_waiting, steps_down, stays_on, raft_turn, reads, counts, with_reads, restored, due_answers, not_due, receive, appended_for, proposed, if_leads, query, begun, read, applied_command, applied_entry, apply, write_command}
 use Rattle.rq_world.specs.World.{Op, Write, Queue, Read, Note, Asked, Answered, Act, Ask, Elect, Beat, Flush, Apply, Compact, Deliver, Tick, Idle, act, note_of, place_of, at_place}
 use Rattle.rq_world.specs.Promise.{HasResults, HasSequence}
 use Rattle.rq_world.proofs.Tests.{if_case, and_true, eq_true, lt_true}
@@ -71,8 +73,8 @@ has_at w (x ∷ ws) (suc k) e = inr (has_at w ws k e)
 
 -- what is answered where it is asked: a read, at level weak by a leader, and a queued write that doesn't wait
 abbrev pub IsQuick : Node → Op → Type 0
-IsQuick n (Write items) = Prim.⊥
-IsQuick n (Queue items wait) = wait ≡ false
+IsQuick n (Write list mixed) = Prim.⊥
+IsQuick n (Queue list wait) = wait ≡ false
 IsQuick n (Read items level.None limit) = ⊤
 IsQuick n (Read items level.Weak limit) = n.raft.role ≡ Leader
 IsQuick n (Read items level.Linearizable limit) = Prim.⊥
@@ -83,35 +85,35 @@ IsQuick n (Read items level.Strong limit) = Prim.⊥
 abbrev pub Counts : Say → Type 0
 Counts (Results results) = ⊤
 Counts (Queued sequence) = ⊤
-Counts (NoLeader term) = Prim.⊥
-Counts (Lost term now) = Prim.⊥
-Counts (Timeout asked now) = Prim.⊥
-Counts (Stale contact now limit) = Prim.⊥
-Counts (EntryTooLarge size) = Prim.⊥
-Counts (QueuedTooLarge size) = Prim.⊥
-Counts (Full held) = Prim.⊥
+Counts Loaded = Prim.⊥
+Counts (Backup sql) = Prim.⊥
+Counts (Nodes servers) = Prim.⊥
+Counts Ready = Prim.⊥
+Counts Changed = Prim.⊥
+Counts (Moved address) = Prim.⊥
+Counts (Refused refusal) = Prim.⊥
 
 pub results_count : (say : Say) → HasResults say → Counts say
 results_count (Results results) h = tt
 results_count (Queued sequence) h = absurd h
-results_count (NoLeader term) h = absurd h
-results_count (Lost term now) h = absurd h
-results_count (Timeout asked now) h = absurd h
-results_count (Stale contact now limit) h = absurd h
-results_count (EntryTooLarge size) h = absurd h
-results_count (QueuedTooLarge size) h = absurd h
-results_count (Full held) h = absurd h
+results_count Loaded h = absurd h
+results_count (Backup sql) h = absurd h
+results_count (Nodes servers) h = absurd h
+results_count Ready h = absurd h
+results_count Changed h = absurd h
+results_count (Moved address) h = absurd h
+results_count (Refused refusal) h = absurd h
 
 pub sequence_counts : (say : Say) → HasSequence say → Counts say
 sequence_counts (Results results) h = absurd h
 sequence_counts (Queued sequence) h = tt
-sequence_counts (NoLeader term) h = absurd h
-sequence_counts (Lost term now) h = absurd h
-sequence_counts (Timeout asked now) h = absurd h
-sequence_counts (Stale contact now limit) h = absurd h
-sequence_counts (EntryTooLarge size) h = absurd h
-sequence_counts (QueuedTooLarge size) h = absurd h
-sequence_counts (Full held) h = absurd h
+sequence_counts Loaded h = absurd h
+sequence_counts (Backup sql) h = absurd h
+sequence_counts (Nodes servers) h = absurd h
+sequence_counts Ready h = absurd h
+sequence_counts Changed h = absurd h
+sequence_counts (Moved address) h = absurd h
+sequence_counts (Refused refusal) h = absurd h
 
 abbrev NoResults : List Answer → Type 0
 NoResults [] = ⊤
@@ -123,7 +125,7 @@ none_put a (b ∷ bs) f (one, rest) = if_case NoResults (nat_lt a.number b.numbe
 
 none_lost : (term now : ℕ) (ks : List ℕ) → NoResults (lost_all term now ks)
 none_lost term now [] = tt
-none_lost term now (k ∷ ks) = none_put (record { number = k; say = Lost term now }) (lost_all term now ks) (λ h. h) (none_lost term now ks)
+none_lost term now (k ∷ ks) = none_put (record { number = k; say = Refused (Lost term now) }) (lost_all term now ks) (λ h. h) (none_lost term now ks)
 
 none_both : (one two : List Answer) → NoResults one → NoResults two → NoResults (one ++ two)
 none_both [] two none all = all
@@ -135,15 +137,15 @@ none_in_order (a ∷ l) (f, rest) = none_put a (by_number l) f (none_in_order l 
 
 none_waiting : (now : ℕ) (ws : List Waiting) → NoResults (expired_waiting now ws)
 none_waiting now [] = tt
-none_waiting now (w ∷ ws) = if_case NoResults (is_expired now w.asked w.timeout) (record { number = w.number; say = Timeout w.asked now } ∷ expired_waiting now ws) (expired_waiting now ws) (λ _. ((λ h. h), none_waiting now ws)) (λ _. none_waiting now ws)
+none_waiting now (w ∷ ws) = if_case NoResults (is_expired now w.asked w.timeout) (record { number = w.number; say = Refused (Timeout w.asked now) } ∷ expired_waiting now ws) (expired_waiting now ws) (λ _. ((λ h. h), none_waiting now ws)) (λ _. none_waiting now ws)
 
 none_readings : (now : ℕ) (rs : List PendingRead) → NoResults (expired_reads now rs)
 none_readings now [] = tt
-none_readings now (r ∷ rs) = if_case NoResults (is_expired now r.asked r.timeout) (record { number = r.pass.id; say = Timeout r.asked now } ∷ expired_reads now rs) (expired_reads now rs) (λ _. ((λ h. h), none_readings now rs)) (λ _. none_readings now rs)
+none_readings now (r ∷ rs) = if_case NoResults (is_expired now r.asked r.timeout) (record { number = r.pass.id; say = Refused (Timeout r.asked now) } ∷ expired_reads now rs) (expired_reads now rs) (λ _. ((λ h. h), none_readings now rs)) (λ _. none_readings now rs)
 
 none_queued : (now : ℕ) (qs : List QueuedWrite) → NoResults (expired_queued now qs)
 none_queued now [] = tt
-none_queued now (q ∷ qs) = if_case NoResults (queued_is_expired now q) (record { number = q.number; say = Timeout q.asked now } ∷ expired_queued now qs) (expired_queued now qs) (λ _. ((λ h. h), none_queued now qs)) (λ _. none_queued now qs)
+none_queued now (q ∷ qs) = if_case NoResults (queued_is_expired now q) (record { number = q.number; say = Refused (Timeout q.asked now) } ∷ expired_queued now qs) (expired_queued now qs) (λ _. ((λ h. h), none_queued now qs)) (λ _. none_queued now qs)
 
 waiting_late : (w : Waiting) (now : ℕ) (ws : List Waiting) → HasWaiting w (live_waiting now ws) → HasWaiting w ws
 waiting_late w now [] = λ h. h
@@ -214,9 +216,9 @@ module _ (g : Given) where
   pub record IsPut (n : Node) (a : Act) (qs : List QueuedWrite) : Type 0 where
     pub number : ℕ
     pub timeout : ℕ
-    pub items : List Item
+    pub list : Statements
     pub wait : Bool
-    pub act : a ≡ Ask number timeout (Queue items wait)
+    pub act : a ≡ Ask number timeout (Queue list wait)
     pub goes : numbers qs ≡ numbers n.queue ++ number ∷ []
 
   -- this act takes the batch from it
@@ -307,7 +309,7 @@ module _ (g : Given) where
     queue = inl refl;
   }
     where
-      own : (m asked place : ℕ) (say : Say) → slice_get (Answered number (Results (Rattle.rq_engine.specs.Meaning.answers n.database items)) n.raft.applied ∷ []) m ≡ Some (Answered asked say place) → Source n (Ask number timeout op) n.raft m asked place
+      own : (m asked place : ℕ) (say : Say) → slice_get (Answered number (Results (answer n.replica items)) n.raft.applied ∷ []) m ≡ Some (Answered asked say place) → Source n (Ask number timeout op) n.raft m asked place
       own zero asked place say e = Own (record { timeout = timeout; op = op; act = ap (λ (k : ℕ). Ask k timeout op) (ap number_in e); quick = quick; place_is = sym (ap place_in e) })
         where
           place_in : Option Note → ℕ
@@ -322,7 +324,7 @@ module _ (g : Given) where
       own (suc m) asked place say e = absurd (cc)
 
   led_gives : (n : Node) (a : Act) (number : ℕ) (t : Turn) → (n.raft.role ≡ Leader → Gives n a t) → Gives n a (if_leads g.first n number t)
-  led_gives n a number t f = if_case (Gives n a) (is_leader n.raft.role) t (says n number (NoLeader n.raft.term)) (λ q. f (leads_yes n.raft.role q)) (λ _. refusal_gives n a number (NoLeader n.raft.term) (λ h. h))
+  led_gives n a number t f = if_case (Gives n a) (is_leader n.raft.role) t (says n number (Refused (NoLeader n.raft.term))) (λ q. f (leads_yes n.raft.role q)) (λ _. refusal_gives n a number (Refused (NoLeader n.raft.term)) (λ h. h))
 
   taken_gives : (n : Node) (number moment timeout : ℕ) (op : Op) (entry : LogEntry) → n.raft.role ≡ Leader → Gives n (Ask number timeout op) (appended_for g.first n number moment timeout entry)
   taken_gives n number moment timeout op entry leads = record {
@@ -336,10 +338,10 @@ module _ (g : Given) where
       new w (inl e) = record { op = op; act = ap (λ (x : Waiting). Ask x.number x.timeout op) e; leads = leads; index = sym (ap (λ (x : Waiting). x.index) e); position = sym (ap (λ (x : Waiting). x.position) e) }
       new w (inr e) = absurd e
 
-  proposed_gives : (n : Node) (number moment timeout : ℕ) (op : Op) (content : Content) (size : ℕ) → n.raft.role ≡ Leader → Gives n (Ask number timeout op) (proposed g.first n number moment timeout content size)
-  proposed_gives n number moment timeout op content size leads = if_case (Gives n (Ask number timeout op)) (nat_lt max_command_bytes size) (says n number (EntryTooLarge size)) (appended_for g.first n number moment timeout (record { term = n.raft.term; content = content }))
-      (λ _. refusal_gives n (Ask number timeout op) number (EntryTooLarge size) (λ h. h))
-      (λ _. taken_gives n number moment timeout op (record { term = n.raft.term; content = content }) leads)
+  proposed_gives : (n : Node) (number moment timeout : ℕ) (op : Op) (command : Command) (size : ℕ) → n.raft.role ≡ Leader → Gives n (Ask number timeout op) (proposed g.first n number moment timeout command size)
+  proposed_gives n number moment timeout op command size leads = if_case (Gives n (Ask number timeout op)) (nat_lt max_command_bytes size) (says n number (Refused (EntryTooLarge size))) (appended_for g.first n number moment timeout (record { term = n.raft.term; command = command }))
+      (λ _. refusal_gives n (Ask number timeout op) number (Refused (EntryTooLarge size)) (λ h. h))
+      (λ _. taken_gives n number moment timeout op (record { term = n.raft.term; command = command }) leads)
 
   begun_gives : (n : Node) (number moment timeout : ℕ) (items : List Item) (limit : Option ℕ) (t : RaftTurn LogEntry) → n.raft.role ≡ Leader → Gives n (Ask number timeout (Read items level.Linearizable limit)) (begun g.first n number moment timeout items t)
   begun_gives n number moment timeout items limit t leads = record {
@@ -360,17 +362,17 @@ module _ (g : Given) where
 
   -- ---- queued writes
 
-  put_gives : (n : Node) (number moment timeout : ℕ) (items : List Item) (waits : Bool) → Gives n (Ask number timeout (Queue items waits)) (enqueued g.first n number moment timeout items waits)
-  put_gives n number moment timeout items waits = record {
+  put_gives : (n : Node) (number moment timeout : ℕ) (list : Statements) (waits : Bool) → Gives n (Ask number timeout (Queue list waits)) (enqueued g.first n number moment timeout list waits)
+  put_gives n number moment timeout list waits = record {
     answers = λ m asked place say c e. own waits m asked place say e;
     pending_reads = λ r h. inl h;
     waitings = λ w h. inl h;
-    queue = inr (inl (record { number = number; timeout = timeout; items = items; wait = waits; act = refl; goes = numbers_both n.queue (record { sequence = n.last + 1; number = number; items = items; waits = waits; asked = moment; timeout = timeout } ∷ []) }));
+    queue = inr (inl (record { number = number; timeout = timeout; list = list; wait = waits; act = refl; goes = numbers_both n.queue (record { sequence = n.last + 1; number = number; list = list; waits = waits; asked = moment; timeout = timeout } ∷ []) }));
   }
     where
-      own : (b : Bool) (m asked place : ℕ) (say : Say) → slice_get (at_place g.first n.raft.applied (immediate_answer g.first b number (n.last + 1))) m ≡ Some (Answered asked say place) → Source n (Ask number timeout (Queue items b)) n.raft m asked place
+      own : (b : Bool) (m asked place : ℕ) (say : Say) → slice_get (at_place g.first n.raft.applied (immediate_answer g.first b number (n.last + 1))) m ≡ Some (Answered asked say place) → Source n (Ask number timeout (Queue list b)) n.raft m asked place
       own true m asked place say e = absurd (cc)
-      own false zero asked place say e = Own (record { timeout = timeout; op = Queue items false; act = ap (λ (k : ℕ). Ask k timeout (Queue items false)) (ap number_in e); quick = refl; place_is = sym (ap place_in e) })
+      own false zero asked place say e = Own (record { timeout = timeout; op = Queue list false; act = ap (λ (k : ℕ). Ask k timeout (Queue list false)) (ap number_in e); quick = refl; place_is = sym (ap place_in e) })
         where
           place_in : Option Note → ℕ
           place_in None = 0
@@ -383,16 +385,16 @@ module _ (g : Given) where
           number_in (Some (Answered j x p)) = j
       own false (suc m) asked place say e = absurd (cc)
 
-  queued_gives : (n : Node) (number moment timeout : ℕ) (items : List Item) (waits : Bool) → Gives n (Ask number timeout (Queue items waits)) (enqueue g.first n number moment timeout items waits)
-  queued_gives n number moment timeout items waits =
-      let a = Ask number timeout (Queue items waits) in
-      let size = length (execute_bytes items) in
+  queued_gives : (n : Node) (number moment timeout : ℕ) (list : Statements) (waits : Bool) → Gives n (Ask number timeout (Queue list waits)) (enqueue g.first n number moment timeout list waits)
+  queued_gives n number moment timeout list waits =
+      let a = Ask number timeout (Queue list waits) in
+      let size = length (command_bytes (Execute list)) in
       let held = length n.queue in
-      let t = enqueued g.first n number moment timeout items waits in
+      let t = enqueued g.first n number moment timeout list waits in
       led_gives n a number (if_not_too_large g.first n number size (if_not_full g.first n number t)) (λ _.
-      if_case (Gives n a) (nat_lt max_queued_bytes size) (says n number (QueuedTooLarge size)) (if_not_full g.first n number t)
-      (λ _. refusal_gives n a number (QueuedTooLarge size) (λ h. h))
-      (λ _. if_case (Gives n a) (nat_le queue_capacity held) (says n number (Full held)) t (λ _. refusal_gives n a number (Full held) (λ h. h)) (λ _. put_gives n number moment timeout items waits)))
+      if_case (Gives n a) (nat_lt max_queued_bytes size) (says n number (Refused (QueuedTooLarge size))) (if_not_full g.first n number t)
+      (λ _. refusal_gives n a number (Refused (QueuedTooLarge size)) (λ h. h))
+      (λ _. if_case (Gives n a) (nat_le queue_capacity held) (says n number (Refused (QueueFull held))) t (λ _. refusal_gives n a number (Refused (QueueFull held)) (λ h. h)) (λ _. put_gives n number moment timeout list waits)))
 
   flushed_gives : (n : Node) → n.raft.role ≡ Leader → Gives n Flush (flushed g.first n)
   flushed_gives n leads = record {
@@ -441,7 +443,7 @@ module _ (g : Given) where
   due_has n m a place applied (r ∷ rs) from k number at say e = go k (is_due g.first m.raft r.pass) refl e (λ j f. due_has n m a place applied rs (λ x h. from x (inr h)) j number at say f)
     where
       mine : Answer
-      mine = record { number = r.pass.id; say = Results (Rattle.rq_engine.specs.Meaning.answers m.database r.items) }
+      mine = record { number = r.pass.id; say = Results (answer m.replica r.items) }
 
       place_in : Option Note → ℕ
       place_in None = 0
@@ -490,17 +492,17 @@ module _ (g : Given) where
       })
       (λ _. record { answers = λ m number place say c e. absurd (cc); pending_reads = λ x h. inl h; waitings = λ x h. inl h; queue = inl refl })
 
-  content_gives : (n : Node) (content : Content) → n.raft.applied < n.raft.commit → Gives n Apply (applied_content n content)
-  content_gives n content lt = record {
+  command_gives : (n : Node) (command : Command) → n.raft.applied < n.raft.commit → Gives n Apply (applied_command n command)
+  command_gives n command lt = record {
     queue = inl refl;
     answers = λ m number place say c e.
-        let k = next (outcome_of n.database content) n.waiting m number place say e in
+        let k = next (run n.replica command).1 n.waiting m number place say e in
         Next (record { none = λ i. refl; place_is = k.4; applied = refl; less = lt; waiting = k.0; found = k.1; number_is = k.2; at = k.3 });
     pending_reads = λ r h. inl h;
     waitings = λ w h. inl (waiting_left w (n.raft.applied + 1) n.waiting h);
   }
     where
-      next : (got : List Res) (ws : List Waiting) (m number place : ℕ) (say : Say) → slice_get (at_place g.first (n.raft.applied + 1) (answered (n.raft.applied + 1) got ws)) m ≡ Some (Answered number say place)
+      next : (got : Outcome) (ws : List Waiting) (m number place : ℕ) (say : Say) → slice_get (at_place g.first (n.raft.applied + 1) (answered (n.raft.applied + 1) got ws)) m ≡ Some (Answered number say place)
           → (w : Waiting) × (slice_get ws m ≡ Some w) × (w.number ≡ number) × (w.index ≡ n.raft.applied + 1) × (place ≡ n.raft.applied + 1)
       next got [] m number place say e = absurd (cc)
       next got (w ∷ ws) m number place say e = go m (w.index == n.raft.applied + 1) refl e (λ k f. next got ws k number place say f)
@@ -526,8 +528,8 @@ module _ (g : Given) where
     read_gives : (n : Node) (number moment timeout : ℕ) (items : List Item) (l : Level) (limit : Option ℕ) → Gives n (Ask number timeout (Read items l limit)) (read g.first n number moment timeout items l limit)
     read_gives n number moment timeout items level.None limit =
         let op = Read items level.None limit in
-        if_case (Gives n (Ask number timeout op)) (is_stale n.raft limit moment) (says n number (Stale n.raft.contact moment (limit_of limit))) (query g.first n number items)
-        (λ _. refusal_gives n (Ask number timeout op) number (Stale n.raft.contact moment (limit_of limit)) (λ h. h)) (λ _. query_gives n number timeout op items tt)
+        if_case (Gives n (Ask number timeout op)) (is_stale n.raft limit moment) (says n number (Refused (Stale n.raft.contact moment (limit_of limit)))) (query g.first n number items)
+        (λ _. refusal_gives n (Ask number timeout op) number (Refused (Stale n.raft.contact moment (limit_of limit))) (λ h. h)) (λ _. query_gives n number timeout op items tt)
     read_gives n number moment timeout items level.Weak limit = led_gives n (Ask number timeout (Read items level.Weak limit)) number (query g.first n number items) (λ leads. query_gives n number timeout (Read items level.Weak limit) items leads)
     read_gives n number moment timeout items level.Linearizable limit =
         let op = Read items level.Linearizable limit in
@@ -535,7 +537,7 @@ module _ (g : Given) where
         led_gives n (Ask number timeout op) number (reads g.first t) (λ leads. reads_gives n (Ask number timeout op) t (lead_on.beats n.raft).0 (begun_gives n number moment timeout items limit (begin g.first n.raft) leads))
     read_gives n number moment timeout items level.Strong limit =
         let op = Read items level.Strong limit in
-        let size = length (strong_query_bytes items) in
+        let size = length (command_bytes (StrongQuery items)) in
         led_gives n (Ask number timeout op) number (proposed g.first n number moment timeout (StrongQuery items) size) (proposed_gives n number moment timeout op (StrongQuery items) size)
 
     apply_gives : (n : Node) → Gives n Apply (apply g.first n)
@@ -544,10 +546,10 @@ module _ (g : Given) where
       where
         entry : n.raft.applied < n.raft.commit → (o : Option LogEntry) → Gives n Apply (applied_entry g.first n o)
         entry lt None = quiet_gives n Apply
-        entry lt (Some e) = reads_gives n Apply (applied_content n e.content) refl (content_gives n e.content lt)
+        entry lt (Some e) = reads_gives n Apply (applied_command n e.command) refl (command_gives n e.command lt)
 
     restored_gives : (n : Node) (a : Act) (list : List LogEntry) (t : Turn) → Gives n a t → Gives n a (restored g.first n list t)
-    restored_gives n a list t b = if_case (Gives n a) (nat_lt n.raft.applied t.node.raft.applied) (record t { node = record t.node { database = replica list } }) t
+    restored_gives n a list t b = if_case (Gives n a) (nat_lt n.raft.applied t.node.raft.applied) (record t { node = record t.node { replica = replica_of g.first list } }) t
         (λ _. record { answers = b.answers; pending_reads = b.pending_reads; waitings = b.waitings; queue = b.queue }) (λ _. b)
 
     -- a reply applies nothing
@@ -574,8 +576,8 @@ module _ (g : Given) where
         if_case (Gives n (Deliver k)) (bytes_eq p.to n.raft.id) (with_reads g.first n p p.message (raft_turn n r)) (unchanged n) (λ _. with_gives n k p r p.message (lead_on.receives n.raft moment p).0) (λ _. quiet_gives n (Deliver k))
 
     pub act_gives : (sent : List (Packet LogEntry)) (moment : ℕ) (n : Node) (a : Act) → Gives n a (act g.first sent moment n a)
-    act_gives sent moment n (Ask number timeout (Write items)) = led_gives n (Ask number timeout (Write items)) number (proposed g.first n number moment timeout (Execute items) (length (execute_bytes items))) (proposed_gives n number moment timeout (Write items) (Execute items) (length (execute_bytes items)))
-    act_gives sent moment n (Ask number timeout (Queue items wait)) = queued_gives n number moment timeout items wait
+    act_gives sent moment n (Ask number timeout (Write list mixed)) = led_gives n (Ask number timeout (Write list mixed)) number (proposed g.first n number moment timeout (write_command list mixed) (length (command_bytes (write_command list mixed)))) (proposed_gives n number moment timeout (Write list mixed) (write_command list mixed) (length (command_bytes (write_command list mixed))))
+    act_gives sent moment n (Ask number timeout (Queue list wait)) = queued_gives n number moment timeout list wait
     act_gives sent moment n (Ask number timeout (Read items level limit)) = read_gives n number moment timeout items level limit
     act_gives sent moment n Elect = turned_gives n Elect (vote.elect log_entries g.first n.raft)
     act_gives sent moment n Beat = turned_gives n Beat (lead.beat log_entries g.first n.raft)

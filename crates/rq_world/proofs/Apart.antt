@@ -2,10 +2,10 @@
 use Rattle.std.proofs.Common.{◌≡◌, ◌⊎◌, ◌<◌, ◌≤◌, ℕ, zero, suc, ◌+◌, ◌-◌, ◌&&◌, not, List, [], ◌∷◌, ◌++◌, length, take, slice_get, true, false, Option, Some, None, refl, sym, ◌∙◌, ap, subst, inl, inr, ⊎_elim, arith}
 use Rattle.std.specs.Prelude.{nat_lt, nat_le, bytes_eq}
 use Rattle.rq_statement.specs.declared.item.Item.{Item}
-use Rattle.rq_world.specs.declared.say.Say.{Say}
-use Rattle.rq_world.specs.declared.say.Say.TheVariants.{NoLeader, Stale, EntryTooLarge, QueuedTooLarge, Full}
-use Rattle.rq_statement.specs.Bytes.{execute_bytes}
-use Rattle.rq_world.specs.Commands.{strong_query_bytes}
+use Rattle.rq_request.specs.declared.say.Say.{Say}
+use Rattle.rq_request.specs.declared.say.Say.TheVariants.{Refused}
+use Rattle.rq_request.specs.declared.say.NodeRefusal.TheVariants.{NoLeader, Stale, EntryTooLarge, QueuedTooLarge, QueueFull}
+use Rattle.rq_statement.specs.Bytes.{command_bytes}
 use Rattle.rq_history.specs.History.{NodeId, Node as HistoryNode, Was, WasBefore}
 use Rattle.rq_raft.specs.Entries.{voters}
 use Rattle.rq_raft.specs.Truth.{role_of, history_node}
@@ -18,14 +18,14 @@ use Rattle.rq_raft.specs.Deliver as deliver
 use Rattle.rq_raft.specs.Install as install
 use Rattle.rq_raft.specs.Laws.{Installed}
 use Rattle.rq_world.specs.declared.log_entry.LogEntry.{LogEntry}
-use Rattle.rq_world.specs.declared.log_entry.Content.{Content}
-use Rattle.rq_world.specs.declared.log_entry.Content.TheVariants.{Execute, StrongQuery}
-use Rattle.rq_world.specs.declared.level.Level.{Level}
-use Rattle.rq_world.specs.declared.level.Level.TheVariants as level
+use Rattle.rq_statement.specs.declared.command.Command.{Command}
+use Rattle.rq_statement.specs.declared.command.Command.TheVariants.{Execute, StrongQuery}
+use Rattle.rq_request.specs.declared.ask.Level.{Level}
+use Rattle.rq_request.specs.declared.ask.Level.TheVariants as level
 use Rattle.rq_world.specs.declared.waiting.Waiting.{Waiting}
-use Rattle.rq_world.specs.Node.{PendingRead, Node, log_entries, Turn, unchanged, says}
+use Rattle.rq_world.specs.Node.{PendingRead, Node, log_entries, Turn, unchanged, says, replica_of}
 use Rattle.rq_world.specs.Reads.{begin, is_stale, limit_of}
-use Rattle.rq_world.specs.Rules.{max_command_bytes, max_queued_bytes, queue_capacity, enqueued, if_not_full, if_not_too_large, batch_entry, flushed, steps_down, stays_on, raft_turn, reads, counts, with_reads, replica, receive, appended_for, proposed, if_leads, query, begun, read, applied_entry}
+use Rattle.rq_world.specs.Rules.{max_command_bytes, max_queued_bytes, queue_capacity, enqueued, if_not_full, if_not_too_large, batch_entry, flushed, steps_down, stays_on, raft_turn, reads, counts, with_reads, receive, appended_for, proposed, if_leads, query, begun, read, applied_entry, write_command}
 use Rattle.rq_world.specs.World.{Op, Write, Queue, Read, Note, Answered, NodeState, Running, Down, World, Act, Ask, Elect, Beat, Flush, Apply, Compact, Deliver, Tick, Idle, Event, Run as Events, First, Then, act, note_of, place_of, at_place, world, IsPast, chosen}
 use Rattle.rq_world.specs.Promise.{op_of, number_of, asked_in, IsNew, IsNumbered, IsAcknowledged}
 use Rattle.rq_world.proofs.Tests.{if_case, and_true}
@@ -50,32 +50,32 @@ module _ (g : Given) (known : Known g) where
   turned_applied n r e = if_case (Applies n) (is_leader n.raft.role && not (is_leader r.node.role)) (steps_down n r) (stays_on n r) (λ _. omega (arith, e)) (λ _. omega (arith, e))
 
   led_applied : (n : Node) (number : ℕ) (t : Turn) → (n.raft.role ≡ Leader → Applies n t) → Applies n (if_leads g.first n number t)
-  led_applied n number t f = if_case (Applies n) (is_leader n.raft.role) t (says n number (NoLeader n.raft.term)) (λ q. f (leads n.raft.role q)) (λ _. omega arith)
+  led_applied n number t f = if_case (Applies n) (is_leader n.raft.role) t (says n number (Refused (NoLeader n.raft.term))) (λ q. f (leads n.raft.role q)) (λ _. omega arith)
     where
       leads : (r : Role) → is_leader r ≡ true → r ≡ Leader
       leads Follower e = absurd (cc)
       leads Candidate e = absurd (cc)
       leads Leader e = refl
 
-  proposed_applied : (n : Node) (number moment timeout : ℕ) (content : Content) (size : ℕ) → n.raft.role ≡ Leader → Applies n (proposed g.first n number moment timeout content size)
-  proposed_applied n number moment timeout content size leads = if_case (Applies n) (nat_lt max_command_bytes size) (says n number (EntryTooLarge size)) (appended_for g.first n number moment timeout (record { term = n.raft.term; content = content }))
-      (λ _. omega arith) (λ _. omega (arith, (known.lead_on.proposes n.raft (record { term = n.raft.term; content = content }) leads).0))
+  proposed_applied : (n : Node) (number moment timeout : ℕ) (command : Command) (size : ℕ) → n.raft.role ≡ Leader → Applies n (proposed g.first n number moment timeout command size)
+  proposed_applied n number moment timeout command size leads = if_case (Applies n) (nat_lt max_command_bytes size) (says n number (Refused (EntryTooLarge size))) (appended_for g.first n number moment timeout (record { term = n.raft.term; command = command }))
+      (λ _. omega arith) (λ _. omega (arith, (known.lead_on.proposes n.raft (record { term = n.raft.term; command = command }) leads).0))
 
   read_applied : (n : Node) (number moment timeout : ℕ) (items : List Item) (l : Level) (limit : Option ℕ) → Applies n (read g.first n number moment timeout items l limit)
-  read_applied n number moment timeout items level.None limit = if_case (Applies n) (is_stale n.raft limit moment) (says n number (Stale n.raft.contact moment (limit_of limit))) (query g.first n number items) (λ _. omega arith) (λ _. omega arith)
+  read_applied n number moment timeout items level.None limit = if_case (Applies n) (is_stale n.raft limit moment) (says n number (Refused (Stale n.raft.contact moment (limit_of limit)))) (query g.first n number items) (λ _. omega arith) (λ _. omega arith)
   read_applied n number moment timeout items level.Weak limit = led_applied n number (query g.first n number items) (λ _. omega arith)
   read_applied n number moment timeout items level.Linearizable limit = led_applied n number (reads g.first (begun g.first n number moment timeout items (begin g.first n.raft))) (λ _. omega (arith, (known.lead_on.beats n.raft).0))
-  read_applied n number moment timeout items level.Strong limit = led_applied n number (proposed g.first n number moment timeout (StrongQuery items) (length (strong_query_bytes items))) (proposed_applied n number moment timeout (StrongQuery items) (length (strong_query_bytes items)))
+  read_applied n number moment timeout items level.Strong limit = led_applied n number (proposed g.first n number moment timeout (StrongQuery items) (length (command_bytes (StrongQuery items)))) (proposed_applied n number moment timeout (StrongQuery items) (length (command_bytes (StrongQuery items))))
 
   act_applied : (sent : List (Packet LogEntry)) (moment : ℕ) (n : Node) (a : Act) → n.raft.applied ≤ n.raft.commit → Applies n (act g.first sent moment n a)
-  act_applied sent moment n (Ask number timeout (Write items)) done = led_applied n number (proposed g.first n number moment timeout (Execute items) (length (execute_bytes items))) (proposed_applied n number moment timeout (Execute items) (length (execute_bytes items)))
-  act_applied sent moment n (Ask number timeout (Queue items wait)) done =
-      let size = length (execute_bytes items) in
+  act_applied sent moment n (Ask number timeout (Write list mixed)) done = led_applied n number (proposed g.first n number moment timeout (write_command list mixed) (length (command_bytes (write_command list mixed)))) (proposed_applied n number moment timeout (write_command list mixed) (length (command_bytes (write_command list mixed))))
+  act_applied sent moment n (Ask number timeout (Queue list wait)) done =
+      let size = length (command_bytes (Execute list)) in
       let held = length n.queue in
-      let t = enqueued g.first n number moment timeout items wait in
+      let t = enqueued g.first n number moment timeout list wait in
       led_applied n number (if_not_too_large g.first n number size (if_not_full g.first n number t)) (λ _.
-      if_case (Applies n) (nat_lt max_queued_bytes size) (says n number (QueuedTooLarge size)) (if_not_full g.first n number t) (λ _. omega arith)
-      (λ _. if_case (Applies n) (nat_le queue_capacity held) (says n number (Full held)) t (λ _. omega arith) (λ _. omega arith)))
+      if_case (Applies n) (nat_lt max_queued_bytes size) (says n number (Refused (QueuedTooLarge size))) (if_not_full g.first n number t) (λ _. omega arith)
+      (λ _. if_case (Applies n) (nat_le queue_capacity held) (says n number (Refused (QueueFull held))) t (λ _. omega arith) (λ _. omega arith)))
   act_applied sent moment n (Ask number timeout (Read items level limit)) done = read_applied n number moment timeout items level limit
   act_applied sent moment n Elect done = turned_applied n (vote.elect log_entries g.first n.raft) (omega (arith, (known.lead_on.elects n.raft).0))
   act_applied sent moment n Beat done = turned_applied n (lead.beat log_entries g.first n.raft) (omega (arith, (known.lead_on.beats n.raft).0))
@@ -100,7 +100,7 @@ module _ (g : Given) (known : Known g) where
       with_reply p (VoteSay granted) t e = e
       with_reply p (Append prev prev_term commit probe es) t e = e
       with_reply p (AppendSay ok at probe) t e = if_case (Applies n) (counts g.first n p at) (reads g.first t) t (λ _. e) (λ _. e)
-      with_reply p (Install probe list) t e = if_case (Applies n) (nat_lt n.raft.applied t.node.raft.applied) (record t { node = record t.node { database = replica list } }) t (λ _. e) (λ _. e)
+      with_reply p (Install probe list) t e = if_case (Applies n) (nat_lt n.raft.applied t.node.raft.applied) (record t { node = record t.node { replica = replica_of g.first list } }) t (λ _. e) (λ _. e)
       with_reply p (InstallSay at probe) t e = if_case (Applies n) (counts g.first n p at) (reads g.first t) t (λ _. e) (λ _. e)
 
       rises : (r : RaftTurn LogEntry) (m : Message LogEntry) → (r.node.applied ≡ n.raft.applied) ⊎ Installed log_entries g.first n.raft m r → n.raft.applied ≤ r.node.applied
@@ -134,16 +134,16 @@ wait_get book log term (x ∷ ws) (suc k) w all e = wait_get book log term ws k 
 
 pub ack_counts : (op : Option Op) (say : Say) → IsAcknowledged op say → Counts say
 ack_counts None say h = absurd h
-ack_counts (Some (Write items)) say h = results_count say h
-ack_counts (Some (Queue items true)) say h = sequence_counts say h
-ack_counts (Some (Queue items false)) say h = absurd h
+ack_counts (Some (Write list mixed)) say h = results_count say h
+ack_counts (Some (Queue list true)) say h = sequence_counts say h
+ack_counts (Some (Queue list false)) say h = absurd h
 ack_counts (Some (Read items l limit)) say h = absurd h
 
 -- what is answered where it is asked isn't acknowledged
 quick_not : (n : Node) (op : Op) (say : Say) → IsQuick n op → IsAcknowledged (Some op) say → Prim.⊥
-quick_not n (Write items) say quick h = quick
-quick_not n (Queue items true) say quick h = cc
-quick_not n (Queue items false) say quick h = h
+quick_not n (Write list mixed) say quick h = quick
+quick_not n (Queue list true) say quick h = cc
+quick_not n (Queue list false) say quick h = h
 quick_not n (Read items l limit) say quick h = h
 
 module _ (g : Given) (known : Known g) where
@@ -185,8 +185,8 @@ module _ (g : Given) (known : Known g) where
   -- an answer of before was one before
   old_answer : (run : Events) (s : Sound g known.lead_on run) (more : List Note) (k number place : ℕ) (say : Say) → slice_get (book_of run) k ≡ Some (Answered number say place) → IsAcknowledged (op_of (book_of run ++ more) number) say → IsAnswered run k number place say
   old_answer run s more k number place say at op =
-      let right = subst (RightNote (chosen g.first run) (book_of run)) at (all_get (chosen g.first run) (book_of run) (book_of run) k s.right) in
-      let o = right_op (chosen g.first run) (op_of (book_of run) number) say place right in
+      let right = subst (RightNote g.first (chosen g.first run) (book_of run)) at (all_get g.first (chosen g.first run) (book_of run) (book_of run) k s.right) in
+      let o = right_op g.first (chosen g.first run) (op_of (book_of run) number) say place right in
       let kept = op_kept (book_of run) more number o.0 o.1 in
       (at, subst (λ (x : Option Op). IsAcknowledged x say) (kept ∙ sym o.1) op)
 
@@ -278,7 +278,7 @@ module _ (g : Given) (known : Known g) where
           leads = by_role a.node.raft.role refl;
         }
       where
-        serves : Serves (book_of run) a.node
+        serves : Serves g.first (book_of run) a.node
         serves = s.serve a.who a.node a.runs
 
         nobody : (a.node.waiting ≡ []) → Prim.⊥

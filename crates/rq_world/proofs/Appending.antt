@@ -2,10 +2,11 @@
 use Rattle.std.proofs.Common.{◌≡◌, ◌⊎◌, ℕ, ◌+◌, List, [], ◌∷◌, ◌++◌, length, ◌&&◌, Bool, true, Some, None, refl, sym, ◌∙◌, ap, subst, inl, inr, ⊎_elim, arith}
 use Rattle.std.specs.Prelude.{nat_lt, nat_le, slice_get}
 use Rattle.std.proofs.lemmas.List.{length-append, length-take, append_cancel_left}
+use Rattle.rq_statement.specs.Statements.{Statements}
 use Rattle.rq_statement.specs.declared.item.Item.{Item}
-use Rattle.rq_world.specs.declared.say.Say.TheVariants.{NoLeader, Stale, EntryTooLarge, QueuedTooLarge, Full}
-use Rattle.rq_statement.specs.Bytes.{execute_bytes}
-use Rattle.rq_world.specs.Commands.{strong_query_bytes}
+use Rattle.rq_request.specs.declared.say.Say.TheVariants.{Refused}
+use Rattle.rq_request.specs.declared.say.NodeRefusal.TheVariants.{NoLeader, Stale, EntryTooLarge, QueuedTooLarge, QueueFull}
+use Rattle.rq_statement.specs.Bytes.{command_bytes}
 use Rattle.rq_wire.specs.declared.config.Member.{Member}
 use Rattle.rq_history.specs.History.{NodeId, Node as HistoryNode, WasBefore}
 use Rattle.rq_raft.specs.Entries.{voters}
@@ -16,12 +17,12 @@ use Rattle.rq_raft.specs.Node.{RaftTurn, unchanged as raft_quiet, is_leader}
 use Rattle.rq_raft.specs.Lead as lead
 use Rattle.rq_raft.specs.Laws.{LeadOn}
 use Rattle.rq_world.specs.declared.log_entry.LogEntry.{LogEntry}
-use Rattle.rq_world.specs.declared.log_entry.Content.{Content}
-use Rattle.rq_world.specs.declared.log_entry.Content.TheVariants.{Execute, StrongQuery}
-use Rattle.rq_world.specs.declared.level.Level.TheVariants as level
+use Rattle.rq_statement.specs.declared.command.Command.{Command}
+use Rattle.rq_statement.specs.declared.command.Command.TheVariants.{Execute, StrongQuery}
+use Rattle.rq_request.specs.declared.ask.Level.TheVariants as level
 use Rattle.rq_world.specs.Node.{QueuedWrite, Node, log_entries, Turn, unchanged, says}
 use Rattle.rq_world.specs.Reads.{begin, is_stale, limit_of}
-use Rattle.rq_world.specs.Rules.{max_command_bytes, max_queued_bytes, queue_capacity, enqueued, if_not_full, if_not_too_large, enqueue, batch, batch_entry, flushed, flush, reads, appended_for, proposed, if_leads, query, begun}
+use Rattle.rq_world.specs.Rules.{max_command_bytes, max_queued_bytes, queue_capacity, enqueued, if_not_full, if_not_too_large, enqueue, batch, batch_entry, flushed, flush, reads, appended_for, proposed, if_leads, query, begun, write_command}
 use Rattle.rq_world.specs.World.{Op, Write, Queue, Read, Note, Asked, NodeState, Running, Down, World, Act, Ask, Elect, Beat, Flush, Apply, Compact, Deliver, Tick, Idle, Event, At, Stop, Fail, Start, FailStart, Clock, Run as Events, First, Then, turn, note_of, place_of, at_place, happens_at, stops_at, fails_at, world, IsPast}
 use Rattle.rq_world.specs.Laws.{Runs, Leads}
 use Rattle.rq_world.specs.Promise.{op_of, asked_in, IsNew, IsNumbered}
@@ -60,17 +61,17 @@ module _ (g : Given) (lead_on : LeadOn log_entries g.first) where
       ⊎ ((e : LogEntry) × (t.node.raft.log ≡ n.raft.log ++ e ∷ []) × (e.term ≡ n.raft.term) × (n.raft.role ≡ Leader) × (t.node.raft.role ≡ Leader) × (t.node.raft.term ≡ n.raft.term))
 
   led_grew : (n : Node) (number : ℕ) (t : Turn) → (n.raft.role ≡ Leader → Grew n t) → Grew n (if_leads g.first n number t)
-  led_grew n number t f = if_case (Grew n) (is_leader n.raft.role) t (says n number (NoLeader n.raft.term)) (λ q. f (leads n.raft.role q)) (λ _. inl refl)
+  led_grew n number t f = if_case (Grew n) (is_leader n.raft.role) t (says n number (Refused (NoLeader n.raft.term))) (λ q. f (leads n.raft.role q)) (λ _. inl refl)
     where
       leads : (r : Role) → is_leader r ≡ true → r ≡ Leader
       leads Follower e = absurd (cc)
       leads Candidate e = absurd (cc)
       leads Leader e = refl
 
-  proposed_grew : (n : Node) (number moment timeout : ℕ) (content : Content) (size : ℕ) → n.raft.role ≡ Leader → Grew n (proposed g.first n number moment timeout content size)
-  proposed_grew n number moment timeout content size leads = if_case (Grew n) (nat_lt max_command_bytes size) (says n number (EntryTooLarge size)) (appended_for g.first n number moment timeout (record { term = n.raft.term; content = content }))
+  proposed_grew : (n : Node) (number moment timeout : ℕ) (command : Command) (size : ℕ) → n.raft.role ≡ Leader → Grew n (proposed g.first n number moment timeout command size)
+  proposed_grew n number moment timeout command size leads = if_case (Grew n) (nat_lt max_command_bytes size) (says n number (Refused (EntryTooLarge size))) (appended_for g.first n number moment timeout (record { term = n.raft.term; command = command }))
       (λ _. inl refl)
-      (λ _. let e : LogEntry = record { term = n.raft.term; content = content } in let p = lead_on.proposes n.raft e leads in inr (e, p.3, refl, leads, p.1, p.2))
+      (λ _. let e : LogEntry = record { term = n.raft.term; command = command } in let p = lead_on.proposes n.raft e leads in inr (e, p.3, refl, leads, p.1, p.2))
 
   begun_grew : (n : Node) (number moment timeout : ℕ) (items : List Item) → n.raft.role ≡ Leader → Grew n (reads g.first (begun g.first n number moment timeout items (begin g.first n.raft)))
   begun_grew n number moment timeout items leads = inl ((lead_on.beats n.raft).1 leads (still leads)).1
@@ -79,24 +80,24 @@ module _ (g : Given) (lead_on : LeadOn log_entries g.first) where
       still = if_case (λ (t : RaftTurn LogEntry). n.raft.role ≡ Leader → t.node.role ≡ Leader) (is_leader n.raft.role) (lead.send log_entries g.first (λ p. true) (raft_quiet n.raft)) (raft_quiet n.raft) (λ _ q. q) (λ _ q. q)
 
   -- a queued ask appends nothing
-  pub queued_same : (n : Node) (number moment timeout : ℕ) (items : List Item) (wait : Bool) → (enqueue g.first n number moment timeout items wait).node.raft.log ≡ n.raft.log
-  queued_same n number moment timeout items wait =
-      let size = length (execute_bytes items) in
+  pub queued_same : (n : Node) (number moment timeout : ℕ) (list : Statements) (wait : Bool) → (enqueue g.first n number moment timeout list wait).node.raft.log ≡ n.raft.log
+  queued_same n number moment timeout list wait =
+      let size = length (command_bytes (Execute list)) in
       let held = length n.queue in
-      let t = enqueued g.first n number moment timeout items wait in
-      if_case (λ (x : Turn). x.node.raft.log ≡ n.raft.log) (is_leader n.raft.role) (if_not_too_large g.first n number size (if_not_full g.first n number t)) (says n number (NoLeader n.raft.term))
-      (λ _. if_case (λ (x : Turn). x.node.raft.log ≡ n.raft.log) (nat_lt max_queued_bytes size) (says n number (QueuedTooLarge size)) (if_not_full g.first n number t)
+      let t = enqueued g.first n number moment timeout list wait in
+      if_case (λ (x : Turn). x.node.raft.log ≡ n.raft.log) (is_leader n.raft.role) (if_not_too_large g.first n number size (if_not_full g.first n number t)) (says n number (Refused (NoLeader n.raft.term)))
+      (λ _. if_case (λ (x : Turn). x.node.raft.log ≡ n.raft.log) (nat_lt max_queued_bytes size) (says n number (Refused (QueuedTooLarge size))) (if_not_full g.first n number t)
       (λ _. refl)
-      (λ _. if_case (λ (x : Turn). x.node.raft.log ≡ n.raft.log) (nat_le queue_capacity held) (says n number (Full held)) t (λ _. refl) (λ _. refl)))
+      (λ _. if_case (λ (x : Turn). x.node.raft.log ≡ n.raft.log) (nat_le queue_capacity held) (says n number (Refused (QueueFull held))) t (λ _. refl) (λ _. refl)))
       (λ _. refl)
 
   ask_grew : (w : World) (n : Node) (number timeout : ℕ) (op : Op) → Grew n (turn g.first w n (Ask number timeout op))
-  ask_grew w n number timeout (Write items) = led_grew n number (proposed g.first n number w.moment timeout (Execute items) (length (execute_bytes items))) (proposed_grew n number w.moment timeout (Execute items) (length (execute_bytes items)))
-  ask_grew w n number timeout (Queue items wait) = inl (queued_same n number w.moment timeout items wait)
-  ask_grew w n number timeout (Read items level.None limit) = if_case (Grew n) (is_stale n.raft limit w.moment) (says n number (Stale n.raft.contact w.moment (limit_of limit))) (query g.first n number items) (λ _. inl refl) (λ _. inl refl)
+  ask_grew w n number timeout (Write list mixed) = led_grew n number (proposed g.first n number w.moment timeout (write_command list mixed) (length (command_bytes (write_command list mixed)))) (proposed_grew n number w.moment timeout (write_command list mixed) (length (command_bytes (write_command list mixed))))
+  ask_grew w n number timeout (Queue list wait) = inl (queued_same n number w.moment timeout list wait)
+  ask_grew w n number timeout (Read items level.None limit) = if_case (Grew n) (is_stale n.raft limit w.moment) (says n number (Refused (Stale n.raft.contact w.moment (limit_of limit)))) (query g.first n number items) (λ _. inl refl) (λ _. inl refl)
   ask_grew w n number timeout (Read items level.Weak limit) = led_grew n number (query g.first n number items) (λ _. inl refl)
   ask_grew w n number timeout (Read items level.Linearizable limit) = led_grew n number (reads g.first (begun g.first n number w.moment timeout items (begin g.first n.raft))) (begun_grew n number w.moment timeout items)
-  ask_grew w n number timeout (Read items level.Strong limit) = led_grew n number (proposed g.first n number w.moment timeout (StrongQuery items) (length (strong_query_bytes items))) (proposed_grew n number w.moment timeout (StrongQuery items) (length (strong_query_bytes items)))
+  ask_grew w n number timeout (Read items level.Strong limit) = led_grew n number (proposed g.first n number w.moment timeout (StrongQuery items) (length (command_bytes (StrongQuery items)))) (proposed_grew n number w.moment timeout (StrongQuery items) (length (command_bytes (StrongQuery items))))
 
   flush_grew : (n : Node) → Grew n (flush g.first n)
   flush_grew n = if_case (Grew n) (is_leader n.raft.role && nat_lt 0 (length n.queue)) (flushed g.first n) (unchanged n)

@@ -1,29 +1,31 @@
 -- How often a number waits at a node, and how often it is answered: no act makes more of both together than there was, but for an ask's own number.
 use Rattle.std.proofs.Common.{◌≡◌, ◌≤◌, ℕ, zero, suc, ◌+◌, ◌&&◌, nat_eq, List, [], ◌∷◌, ◌++◌, length, map, take, drop, slice_get, Bool, true, false, cond, Option, Some, None, refl, arith}
 use Rattle.std.specs.Prelude.{nat_lt, nat_le, not, bytes_eq, ◌==◌}
+use Rattle.rq_statement.specs.Statements.{Statements}
 use Rattle.rq_statement.specs.declared.item.Item.{Item}
 use Rattle.rq_statement.specs.declared.res.Res.{Res}
-use Rattle.rq_engine.specs.Meaning.{answers}
-use Rattle.rq_statement.specs.Bytes.{execute_bytes}
+use Rattle.rq_engine.specs.declared.outcome.Outcome.{Outcome}
+use Rattle.rq_engine.specs.Fold.{answer, run}
+use Rattle.rq_statement.specs.Bytes.{command_bytes}
 use Rattle.rq_wire.specs.declared.config.Member.{Member}
 use Rattle.rq_raft.specs.Node.{Message, VoteAsk, VoteSay, Append, AppendSay, Install, InstallSay, Packet, RaftTurn, is_leader}
 use Rattle.rq_raft.specs.Vote as vote
 use Rattle.rq_raft.specs.Lead as lead
 use Rattle.rq_raft.specs.Deliver as deliver
 use Rattle.rq_raft.specs.Install as install
-use Rattle.rq_world.specs.declared.say.Say.{Say}
-use Rattle.rq_world.specs.declared.say.Say.TheVariants.{Results, NoLeader, Lost, Timeout, Stale, EntryTooLarge, QueuedTooLarge, Full}
-use Rattle.rq_world.specs.declared.say.Answer.{Answer}
+use Rattle.rq_request.specs.declared.say.Say.{Say}
+use Rattle.rq_request.specs.declared.say.Say.TheVariants.{Results, Refused}
+use Rattle.rq_request.specs.declared.say.NodeRefusal.TheVariants.{NoLeader, Lost, Timeout, Stale, EntryTooLarge, QueuedTooLarge, QueueFull}
+use Rattle.rq_request.specs.declared.say.Answer.{Answer}
 use Rattle.rq_world.specs.declared.log_entry.LogEntry.{LogEntry}
-use Rattle.rq_world.specs.declared.log_entry.Content.{Content}
-use Rattle.rq_world.specs.declared.log_entry.Content.TheVariants.{Execute, StrongQuery}
-use Rattle.rq_world.specs.declared.level.Level.{Level}
-use Rattle.rq_world.specs.declared.level.Level.TheVariants as level
+use Rattle.rq_statement.specs.declared.command.Command.{Command}
+use Rattle.rq_statement.specs.declared.command.Command.TheVariants.{Execute, StrongQuery}
+use Rattle.rq_request.specs.declared.ask.Level.{Level}
+use Rattle.rq_request.specs.declared.ask.Level.TheVariants as level
 use Rattle.rq_world.specs.declared.waiting.Waiting.{Waiting}
-use Rattle.rq_world.specs.Commands.{strong_query_bytes}
-use Rattle.rq_world.specs.Node.{PendingRead, QueuedWrite, Node, log_entries, Turn, unchanged, says}
+use Rattle.rq_world.specs.Node.{PendingRead, QueuedWrite, Node, log_entries, Turn, unchanged, says, replica_of}
 use Rattle.rq_world.specs.Reads.{begin, is_due, is_stale, limit_of}
-use Rattle.rq_world.specs.Rules.{max_command_bytes, max_queued_bytes, queue_capacity, max_batch, inserted, by_number, lost_all, waiting_numbers, is_expired, expired_waiting, expired_reads, live_waiting, live_reads, queued_is_expired, expired_queued, live_queue, tick, stays_on, steps_down, raft_turn, due_answers, not_due, reads, counts, restored, with_reads, receive, appends, appended_for, proposed, if_leads, immediate_answer, enqueued, if_not_full, if_not_too_large, enqueue, batch_waits, batch, batch_entry, flushed, flush, query, query_if_fresh, begun, read, said, answered, still_waiting, outcome_of, applied_content, applied_entry, apply, compact}
+use Rattle.rq_world.specs.Rules.{max_command_bytes, max_queued_bytes, queue_capacity, max_batch, inserted, by_number, lost_all, waiting_numbers, is_expired, expired_waiting, expired_reads, live_waiting, live_reads, queued_is_expired, expired_queued, live_queue, tick, stays_on, steps_down, raft_turn, due_answers, not_due, reads, counts, restored, with_reads, receive, appends, appended_for, proposed, if_leads, immediate_answer, enqueued, if_not_full, if_not_too_large, enqueue, batch_waits, batch, batch_entry, flushed, flush, query, query_if_fresh, begun, read, said, answered, still_waiting, applied_command, applied_entry, apply, compact, write_command}
 use Rattle.rq_world.specs.World.{Op, Write, Queue, Read, Act, Ask, Elect, Beat, Flush, Apply, Compact, Deliver, Tick, Idle, act}
 use Rattle.rq_world.proofs.Tests.{if_case}
 
@@ -115,7 +117,7 @@ module _ (x : ℕ) where
 
   -- ---- what a leader that steps down answers
 
-  lost_said : (term now : ℕ) (ks : List ℕ) → in_answers (map (λ (number : ℕ). record { number = number; say = Lost term now }) ks) ≡ in_list ks
+  lost_said : (term now : ℕ) (ks : List ℕ) → in_answers (map (λ (number : ℕ). record { number = number; say = Refused (Lost term now) }) ks) ≡ in_list ks
   lost_said term now [] = refl
   lost_said term now (k ∷ ks) = let h = lost_said term now ks in omega (arith, h)
 
@@ -129,7 +131,7 @@ module _ (x : ℕ) where
 
   lost_same : (term now : ℕ) (n : Node) → in_answers (lost_all term now (waiting_numbers n)) ≡ in_waiting n.waiting + in_reads n.pending_reads
   lost_same term now n =
-      let s = sorted_same (map (λ (number : ℕ). record { number = number; say = Lost term now }) (waiting_numbers n)) in
+      let s = sorted_same (map (λ (number : ℕ). record { number = number; say = Refused (Lost term now) }) (waiting_numbers n)) in
       let l = lost_said term now (waiting_numbers n) in
       let b = list_both (map (λ (w : Waiting). w.number) n.waiting) (map (λ (r : PendingRead). r.pass.id) n.pending_reads) in
       let w = waiting_list n.waiting in
@@ -148,7 +150,7 @@ module _ (x : ℕ) where
   tick_waiting now (w ∷ ws) = go (tick_waiting now ws) (is_expired now w.asked w.timeout)
     where
       go : in_answers (expired_waiting now ws) + in_waiting (live_waiting now ws) ≡ in_waiting ws → (b : Bool)
-          → in_answers (cond b (record { number = w.number; say = Timeout w.asked now } ∷ expired_waiting now ws) (expired_waiting now ws)) + in_waiting (cond b (live_waiting now ws) (w ∷ live_waiting now ws)) ≡ one x w.number + in_waiting ws
+          → in_answers (cond b (record { number = w.number; say = Refused (Timeout w.asked now) } ∷ expired_waiting now ws) (expired_waiting now ws)) + in_waiting (cond b (live_waiting now ws) (w ∷ live_waiting now ws)) ≡ one x w.number + in_waiting ws
       go h true = omega (arith, h)
       go h false = omega (arith, h)
 
@@ -157,7 +159,7 @@ module _ (x : ℕ) where
   tick_reads now (r ∷ rs) = go (tick_reads now rs) (is_expired now r.asked r.timeout)
     where
       go : in_answers (expired_reads now rs) + in_reads (live_reads now rs) ≡ in_reads rs → (b : Bool)
-          → in_answers (cond b (record { number = r.pass.id; say = Timeout r.asked now } ∷ expired_reads now rs) (expired_reads now rs)) + in_reads (cond b (live_reads now rs) (r ∷ live_reads now rs)) ≡ one x r.pass.id + in_reads rs
+          → in_answers (cond b (record { number = r.pass.id; say = Refused (Timeout r.asked now) } ∷ expired_reads now rs) (expired_reads now rs)) + in_reads (cond b (live_reads now rs) (r ∷ live_reads now rs)) ≡ one x r.pass.id + in_reads rs
       go h true = omega (arith, h)
       go h false = omega (arith, h)
 
@@ -166,7 +168,7 @@ module _ (x : ℕ) where
   tick_queue now (q ∷ qs) = go (tick_queue now qs) q.waits (is_expired now q.asked q.timeout)
     where
       go : in_answers (expired_queued now qs) + in_queue (live_queue now qs) ≡ in_queue qs → (w b : Bool)
-          → in_answers (cond (w && b) (record { number = q.number; say = Timeout q.asked now } ∷ expired_queued now qs) (expired_queued now qs))
+          → in_answers (cond (w && b) (record { number = q.number; say = Refused (Timeout q.asked now) } ∷ expired_queued now qs) (expired_queued now qs))
           + (if_waits (cond (w && b) (record q { waits = false }) (record q { waits = w })).waits (cond (w && b) (record q { waits = false }) (record q { waits = w })).number + in_queue (live_queue now qs))
           ≡ if_waits w q.number + in_queue qs
       go h true true = omega (arith, h)
@@ -185,7 +187,7 @@ module _ (x : ℕ) where
 
   -- ---- an apply
 
-  applied_waiting : (index : ℕ) (results : List Res) (ws : List Waiting) → in_answers (answered index results ws) + in_waiting (still_waiting index ws) ≡ in_waiting ws
+  applied_waiting : (index : ℕ) (results : Outcome) (ws : List Waiting) → in_answers (answered index results ws) + in_waiting (still_waiting index ws) ≡ in_waiting ws
   applied_waiting index results [] = omega arith
   applied_waiting index results (w ∷ ws) = go (applied_waiting index results ws) (w.index == index)
     where
@@ -194,8 +196,8 @@ module _ (x : ℕ) where
       go h true = omega (arith, h)
       go h false = omega arith
 
-  applied_within : (n : Node) (content : Content) → IsWithin (in_node n) (applied_content n content)
-  applied_within n content = let w = applied_waiting (n.raft.applied + 1) (outcome_of n.database content) n.waiting in omega (arith, w)
+  applied_within : (n : Node) (command : Command) → IsWithin (in_node n) (applied_command n command)
+  applied_within n command = let w = applied_waiting (n.raft.applied + 1) (run n.replica command).1 n.waiting in omega (arith, w)
 
   module _ (first : List Member) where
     -- ---- a batch
@@ -216,7 +218,7 @@ module _ (x : ℕ) where
     due_same n (r ∷ rs) = go (due_same n rs) (is_due first n.raft r.pass)
       where
         go : in_answers (due_answers first n rs) + in_reads (not_due first n rs) ≡ in_reads rs → (b : Bool)
-            → in_answers (cond b (record { number = r.pass.id; say = Results (answers n.database r.items) } ∷ due_answers first n rs) (due_answers first n rs)) + in_reads (cond b (not_due first n rs) (r ∷ not_due first n rs)) ≡ one x r.pass.id + in_reads rs
+            → in_answers (cond b (record { number = r.pass.id; say = Results (answer n.replica r.items) } ∷ due_answers first n rs) (due_answers first n rs)) + in_reads (cond b (not_due first n rs) (r ∷ not_due first n rs)) ≡ one x r.pass.id + in_reads rs
         go h true = omega (arith, h)
         go h false = omega (arith, h)
 
@@ -233,7 +235,7 @@ module _ (x : ℕ) where
     with_reads_within n p (VoteSay granted) t within = within
     with_reads_within n p (Append prev term commit probe es) t within = within
     with_reads_within n p (AppendSay ok at probe) t within = if_case (IsWithin (in_node n)) (counts first n p at) (reads first t) t (λ _. reads_within (in_node n) t within) (λ _. within)
-    with_reads_within n p (Install probe list) t within = if_case (IsWithin (in_node n)) (nat_lt n.raft.applied t.node.raft.applied) (record t { node = record t.node { database = Rattle.rq_world.specs.Rules.replica list } }) t (λ _. within) (λ _. within)
+    with_reads_within n p (Install probe list) t within = if_case (IsWithin (in_node n)) (nat_lt n.raft.applied t.node.raft.applied) (record t { node = record t.node { replica = replica_of first list } }) t (λ _. within) (λ _. within)
     with_reads_within n p (InstallSay at probe) t within = if_case (IsWithin (in_node n)) (counts first n p at) (reads first t) t (λ _. reads_within (in_node n) t within) (λ _. within)
 
     quiet_within : (n : Node) → IsWithin (in_node n) (unchanged n)
@@ -259,7 +261,7 @@ module _ (x : ℕ) where
 
     entry_within : (n : Node) (entry : Option LogEntry) → IsWithin (in_node n) (applied_entry first n entry)
     entry_within n None = quiet_within n
-    entry_within n (Some entry) = reads_within (in_node n) (applied_content n entry.content) (applied_within n entry.content)
+    entry_within n (Some entry) = reads_within (in_node n) (applied_command n entry.command) (applied_within n entry.command)
 
     apply_within : (n : Node) → IsWithin (in_node n) (apply first n)
     apply_within n = if_case (IsWithin (in_node n)) (nat_lt n.raft.applied n.raft.commit) (applied_entry first n (slice_get n.raft.log n.raft.applied)) (unchanged n)
@@ -271,30 +273,30 @@ module _ (x : ℕ) where
     says_within n number say = omega arith
 
     if_leads_within : (n : Node) (number : ℕ) (t : Turn) → IsWithin (in_node n + one x number) t → IsWithin (in_node n + one x number) (if_leads first n number t)
-    if_leads_within n number t within = if_case (IsWithin (in_node n + one x number)) (is_leader n.raft.role) t (says n number (NoLeader n.raft.term)) (λ _. within) (λ _. says_within n number (NoLeader n.raft.term))
+    if_leads_within n number t within = if_case (IsWithin (in_node n + one x number)) (is_leader n.raft.role) t (says n number (Refused (NoLeader n.raft.term))) (λ _. within) (λ _. says_within n number (Refused (NoLeader n.raft.term)))
 
     appended_within : (n : Node) (number moment timeout : ℕ) (entry : LogEntry) → IsWithin (in_node n + one x number) (appended_for first n number moment timeout entry)
     appended_within n number moment timeout entry =
         let w = waiting_both n.waiting (record { index = length n.raft.log + 1; number = number; asked = moment; timeout = timeout; position = 0; sequence = None } ∷ []) in
         omega (arith, w)
 
-    proposed_within : (n : Node) (number moment timeout : ℕ) (content : Content) (size : ℕ) → IsWithin (in_node n + one x number) (proposed first n number moment timeout content size)
-    proposed_within n number moment timeout content size = if_case (IsWithin (in_node n + one x number)) (nat_lt max_command_bytes size) (says n number (EntryTooLarge size)) (appended_for first n number moment timeout (record { term = n.raft.term; content = content }))
-        (λ _. says_within n number (EntryTooLarge size)) (λ _. appended_within n number moment timeout (record { term = n.raft.term; content = content }))
+    proposed_within : (n : Node) (number moment timeout : ℕ) (command : Command) (size : ℕ) → IsWithin (in_node n + one x number) (proposed first n number moment timeout command size)
+    proposed_within n number moment timeout command size = if_case (IsWithin (in_node n + one x number)) (nat_lt max_command_bytes size) (says n number (Refused (EntryTooLarge size))) (appended_for first n number moment timeout (record { term = n.raft.term; command = command }))
+        (λ _. says_within n number (Refused (EntryTooLarge size))) (λ _. appended_within n number moment timeout (record { term = n.raft.term; command = command }))
 
-    enqueued_within : (n : Node) (number moment timeout : ℕ) (items : List Item) (waits : Bool) → IsWithin (in_node n + one x number) (enqueued first n number moment timeout items waits)
-    enqueued_within n number moment timeout items true =
-        let q = queue_both n.queue (record { sequence = n.last + 1; number = number; items = items; waits = true; asked = moment; timeout = timeout } ∷ []) in
+    enqueued_within : (n : Node) (number moment timeout : ℕ) (list : Statements) (waits : Bool) → IsWithin (in_node n + one x number) (enqueued first n number moment timeout list waits)
+    enqueued_within n number moment timeout list true =
+        let q = queue_both n.queue (record { sequence = n.last + 1; number = number; list = list; waits = true; asked = moment; timeout = timeout } ∷ []) in
         omega (arith, q)
-    enqueued_within n number moment timeout items false =
-        let q = queue_both n.queue (record { sequence = n.last + 1; number = number; items = items; waits = false; asked = moment; timeout = timeout } ∷ []) in
+    enqueued_within n number moment timeout list false =
+        let q = queue_both n.queue (record { sequence = n.last + 1; number = number; list = list; waits = false; asked = moment; timeout = timeout } ∷ []) in
         omega (arith, q)
 
     full_within : (n : Node) (number : ℕ) (t : Turn) → IsWithin (in_node n + one x number) t → IsWithin (in_node n + one x number) (if_not_full first n number t)
-    full_within n number t within = if_case (IsWithin (in_node n + one x number)) (nat_le queue_capacity (length n.queue)) (says n number (Full (length n.queue))) t (λ _. says_within n number (Full (length n.queue))) (λ _. within)
+    full_within n number t within = if_case (IsWithin (in_node n + one x number)) (nat_le queue_capacity (length n.queue)) (says n number (Refused (QueueFull (length n.queue)))) t (λ _. says_within n number (Refused (QueueFull (length n.queue)))) (λ _. within)
 
     large_within : (n : Node) (number size : ℕ) (t : Turn) → IsWithin (in_node n + one x number) t → IsWithin (in_node n + one x number) (if_not_too_large first n number size t)
-    large_within n number size t within = if_case (IsWithin (in_node n + one x number)) (nat_lt max_queued_bytes size) (says n number (QueuedTooLarge size)) t (λ _. says_within n number (QueuedTooLarge size)) (λ _. within)
+    large_within n number size t within = if_case (IsWithin (in_node n + one x number)) (nat_lt max_queued_bytes size) (says n number (Refused (QueuedTooLarge size))) t (λ _. says_within n number (Refused (QueuedTooLarge size))) (λ _. within)
 
     begun_within : (n : Node) (number moment timeout : ℕ) (items : List Item) (t : RaftTurn LogEntry) → IsWithin (in_node n + one x number) (begun first n number moment timeout items t)
     begun_within n number moment timeout items t =
@@ -302,18 +304,18 @@ module _ (x : ℕ) where
         omega (arith, r)
 
     read_within : (n : Node) (number moment timeout : ℕ) (items : List Item) (l : Level) (limit : Option ℕ) → IsWithin (in_node n + one x number) (read first n number moment timeout items l limit)
-    read_within n number moment timeout items level.None limit = if_case (IsWithin (in_node n + one x number)) (is_stale n.raft limit moment) (says n number (Stale n.raft.contact moment (limit_of limit))) (query first n number items)
-        (λ _. says_within n number (Stale n.raft.contact moment (limit_of limit))) (λ _. says_within n number (Results (answers n.database items)))
-    read_within n number moment timeout items level.Weak limit = if_leads_within n number (query first n number items) (says_within n number (Results (answers n.database items)))
+    read_within n number moment timeout items level.None limit = if_case (IsWithin (in_node n + one x number)) (is_stale n.raft limit moment) (says n number (Refused (Stale n.raft.contact moment (limit_of limit)))) (query first n number items)
+        (λ _. says_within n number (Refused (Stale n.raft.contact moment (limit_of limit)))) (λ _. says_within n number (Results (answer n.replica items)))
+    read_within n number moment timeout items level.Weak limit = if_leads_within n number (query first n number items) (says_within n number (Results (answer n.replica items)))
     read_within n number moment timeout items level.Linearizable limit = if_leads_within n number (reads first (begun first n number moment timeout items (begin first n.raft)))
         (reads_within (in_node n + one x number) (begun first n number moment timeout items (begin first n.raft)) (begun_within n number moment timeout items (begin first n.raft)))
-    read_within n number moment timeout items level.Strong limit = if_leads_within n number (proposed first n number moment timeout (StrongQuery items) (length (strong_query_bytes items)))
-        (proposed_within n number moment timeout (StrongQuery items) (length (strong_query_bytes items)))
+    read_within n number moment timeout items level.Strong limit = if_leads_within n number (proposed first n number moment timeout (StrongQuery items) (length (command_bytes (StrongQuery items))))
+        (proposed_within n number moment timeout (StrongQuery items) (length (command_bytes (StrongQuery items))))
 
     asked_within : (n : Node) (number moment timeout : ℕ) (op : Op) → IsWithin (in_node n + one x number) (Rattle.rq_world.specs.World.asked first n number moment timeout op)
-    asked_within n number moment timeout (Write items) = if_leads_within n number (proposed first n number moment timeout (Execute items) (length (execute_bytes items))) (proposed_within n number moment timeout (Execute items) (length (execute_bytes items)))
-    asked_within n number moment timeout (Queue items waits) = if_leads_within n number (if_not_too_large first n number (length (execute_bytes items)) (if_not_full first n number (enqueued first n number moment timeout items waits)))
-        (large_within n number (length (execute_bytes items)) (if_not_full first n number (enqueued first n number moment timeout items waits)) (full_within n number (enqueued first n number moment timeout items waits) (enqueued_within n number moment timeout items waits)))
+    asked_within n number moment timeout (Write list mixed) = if_leads_within n number (proposed first n number moment timeout (write_command list mixed) (length (command_bytes (write_command list mixed)))) (proposed_within n number moment timeout (write_command list mixed) (length (command_bytes (write_command list mixed))))
+    asked_within n number moment timeout (Queue list waits) = if_leads_within n number (if_not_too_large first n number (length (command_bytes (Execute list))) (if_not_full first n number (enqueued first n number moment timeout list waits)))
+        (large_within n number (length (command_bytes (Execute list))) (if_not_full first n number (enqueued first n number moment timeout list waits)) (full_within n number (enqueued first n number moment timeout list waits) (enqueued_within n number moment timeout list waits)))
     asked_within n number moment timeout (Read items l limit) = read_within n number moment timeout items l limit
 
     -- ---- each act

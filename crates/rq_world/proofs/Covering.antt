@@ -15,7 +15,7 @@ use Rattle.rq_raft.specs.Probes.{Never, Within, Hearing, heard_by, AllHeard, Has
 use Rattle.rq_world.specs.declared.log_entry.LogEntry.{LogEntry}
 use Rattle.rq_world.specs.Node.{Node, persistent_of, log_entries, Turn}
 use Rattle.rq_world.specs.Rules.{started}
-use Rattle.rq_world.specs.declared.say.Say.{Say}
+use Rattle.rq_request.specs.declared.say.Say.{Say}
 use Rattle.rq_world.specs.World.{Note, Answered, note_of, NodeState, Running, Down, World, Act, Ask, Elect, Beat, Flush, Apply, Compact, Deliver, Tick, Idle, Event, At, Stop, Fail, Start, FailStart, Clock, Run as Events, First, Then, turn, set_node, acted, noted, happens_at, stops_at, fails_at, starts_at, fails_start, members, world, IsPast}
 use Rattle.rq_world.specs.Laws.{Runs, Leads}
 use Rattle.rq_world.specs.Promise.{number_of, asked_in}
@@ -168,8 +168,8 @@ module _ (g : Given) (known : Known g) where
   down_follows : (kept : Persistent LogEntry) (rest : List (StoredRecord LogEntry)) (m : Node) → Down kept rest ≡ Running m → (m.raft.role ≡ Follower) × (m.queue ≡ [])
   down_follows kept rest m e = absurd (never_up kept rest m e)
 
-  started_follows : (i : NodeId) (kept : Persistent LogEntry) (m : Node) → Running (started i kept).node ≡ Running m → (m.raft.role ≡ Follower) × (m.queue ≡ [])
-  started_follows i kept m e = let n = sym (node_of (started i kept).node m e) in (ap (λ (n : Node). n.raft.role) n, ap (λ (n : Node). n.queue) n)
+  started_follows : (i : NodeId) (kept : Persistent LogEntry) (m : Node) → Running (started g.first i kept).node ≡ Running m → (m.raft.role ≡ Follower) × (m.queue ≡ [])
+  started_follows i kept m e = let n = sym (node_of (started g.first i kept).node m e) in (ap (λ (n : Node). n.raft.role) n, ap (λ (n : Node). n.queue) n)
 
   pub kind : (run : Events) (e : Event) → Acted run e ⊎ Still run e
   kind run (At i a) = go ((world g.first run).nodes i) refl
@@ -191,7 +191,7 @@ module _ (g : Given) (known : Known g) where
     where
       go : (p : NodeState) → (world g.first run).nodes i ≡ p → world g.first (Then run (Start i k)) ≡ starts_at g.first (world g.first run) i k p → Acted run (Start i k) ⊎ Still run (Start i k)
       go (Running n) is next = inr (same_still run (Start i k) i Idle (world g.first run) (sym (append-nil (world g.first run).book)) next refl refl)
-      go (Down kept rest) is next = inr (put_still run (Start i k) i Idle (starts_at g.first (world g.first run) i k (Down kept rest)) (sym (append-nil (world g.first run).book)) (Running (started i (persistent_after kept (take k rest))).node) (started_follows i (persistent_after kept (take k rest))) next refl refl)
+      go (Down kept rest) is next = inr (put_still run (Start i k) i Idle (starts_at g.first (world g.first run) i k (Down kept rest)) (sym (append-nil (world g.first run).book)) (Running (started g.first i (persistent_after kept (take k rest))).node) (started_follows i (persistent_after kept (take k rest))) next refl refl)
 
       by_member : (b : Bool) → one_of (members g.first) i ≡ b → Acted run (Start i k) ⊎ Still run (Start i k)
       by_member true e = go ((world g.first run).nodes i) refl (ap (λ (b : Bool). cond b (starts_at g.first (world g.first run) i k ((world g.first run).nodes i)) (world g.first run)) e)
@@ -200,7 +200,7 @@ module _ (g : Given) (known : Known g) where
     where
       go : (p : NodeState) → (world g.first run).nodes i ≡ p → Acted run (FailStart i k) ⊎ Still run (FailStart i k)
       go (Running n) is = inr (same_still run (FailStart i k) i Idle (world g.first run) (sym (append-nil (world g.first run).book)) (ap (fails_start g.first (world g.first run) i k) is) refl refl)
-      go (Down kept rest) is = inr (put_still run (FailStart i k) i Idle (fails_start g.first (world g.first run) i k (Down kept rest)) (sym (append-nil (world g.first run).book)) (Down (persistent_after kept (take k rest)) (started i (persistent_after kept (take k rest))).stored) (down_follows (persistent_after kept (take k rest)) (started i (persistent_after kept (take k rest))).stored) (ap (fails_start g.first (world g.first run) i k) is) refl refl)
+      go (Down kept rest) is = inr (put_still run (FailStart i k) i Idle (fails_start g.first (world g.first run) i k (Down kept rest)) (sym (append-nil (world g.first run).book)) (Down (persistent_after kept (take k rest)) (started g.first i (persistent_after kept (take k rest))).stored) (down_follows (persistent_after kept (take k rest)) (started g.first i (persistent_after kept (take k rest))).stored) (ap (fails_start g.first (world g.first run) i k) is) refl refl)
   kind run (Clock moment) = inr (same_still run (Clock moment) [] Idle (record (world g.first run) { moment = max (world g.first run).moment moment }) (sym (append-nil (world g.first run).book)) refl refl refl)
 
   -- ---- the counters

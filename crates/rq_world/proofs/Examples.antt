@@ -2,11 +2,18 @@
 use Rattle.std.proofs.Common.{◌≡◌, ℕ, List, [], ◌∷◌, length, Option, Some, None, true, false, refl}
 use Rattle.rq_wire.specs.declared.config.Member.{Member}
 use Rattle.rq_values.specs.Spelling as spelling
-use Rattle.rq_world.specs.declared.say.Say.TheVariants.{Results, Queued, Lost, Timeout, Stale}
+use Rattle.rq_statement.specs.Statements.{Statements}
+use Rattle.rq_engine.specs.Fold as engine
+use Rattle.rq_request.specs.declared.say.Say.TheVariants.{Results, Queued, Refused}
+use Rattle.rq_request.specs.declared.say.NodeRefusal.TheVariants.{Lost, Timeout, Stale}
 use Rattle.rq_raft.specs.declared.role.Role.{Role}
 use Rattle.rq_raft.specs.declared.role.Role.TheVariants.{Leader}
-use Rattle.rq_world.specs.declared.level.Level.TheVariants as level
+use Rattle.rq_request.specs.declared.ask.Level.TheVariants as level
 use Rattle.rq_world.specs.World.{Op, Write, Queue, Read, Asked, Answered, NodeState, Running, Down, Ask, Elect, Beat, Flush, Apply, Compact, Deliver, Tick, At, Stop, Start, Idle, Run, First, Then, Clock, world, chosen}
+
+-- a list of nothing
+abbrev nothing : Statements
+nothing = record { transaction = false; items = [] }
 
 abbrev three : List Member
 three = record { id = 97 ∷ []; voter = true; http = []; raft = [] } ∷ record { id = 98 ∷ []; voter = true; http = []; raft = [] } ∷ record { id = 99 ∷ []; voter = true; http = []; raft = [] } ∷ []
@@ -61,6 +68,7 @@ waits : (world three run12).book ≡ Asked 1 (97 ∷ []) linearizable ∷ []
 waits = refl
 
 reads : (world three (Then run12 (At (97 ∷ []) Apply))).book ≡ Asked 1 (97 ∷ []) linearizable ∷ Answered 1 (Results []) 1 ∷ []
+unfolding engine.answer engine.run
 reads = refl
 
 -- applied, but no probe was answered
@@ -79,14 +87,14 @@ unfolding spelling.u32_bytes
 commits_strong = refl
 
 reads_strong : (world three (Then (Then run13 (At (97 ∷ []) Apply)) (At (97 ∷ []) Apply))).book ≡ Asked 1 (97 ∷ []) strong ∷ Answered 1 (Results []) 2 ∷ []
-unfolding spelling.u32_bytes
+unfolding spelling.u32_bytes engine.answer engine.run
 reads_strong = refl
 
 -- the other node stands for the next term: what waited at the old leader is lost
 abbrev run14 : Run
 run14 = Then (Then run9 (At (98 ∷ []) Elect)) (At (97 ∷ []) (Deliver 8))
 
-loses : (world three run14).book ≡ Asked 1 (97 ∷ []) linearizable ∷ Answered 1 (Lost 1 2) 0 ∷ []
+loses : (world three run14).book ≡ Asked 1 (97 ∷ []) linearizable ∷ Answered 1 (Refused (Lost 1 2)) 0 ∷ []
 loses = refl
 
 -- freshness: node 98 heard of its leader at moment 0
@@ -94,13 +102,14 @@ abbrev fresh : ℕ → Run
 fresh moment = Then (Then run8 (Clock moment)) (At (98 ∷ []) (Ask 1 10000 (Read [] level.None (Some 1000))))
 
 within : (world three (fresh 1000)).book ≡ Asked 1 (98 ∷ []) (Read [] level.None (Some 1000)) ∷ Answered 1 (Results []) 0 ∷ []
+unfolding engine.answer engine.run
 within = refl
 
-beyond : (world three (fresh 1001)).book ≡ Asked 1 (98 ∷ []) (Read [] level.None (Some 1000)) ∷ Answered 1 (Stale (Some 0) 1001 1000) 0 ∷ []
+beyond : (world three (fresh 1001)).book ≡ Asked 1 (98 ∷ []) (Read [] level.None (Some 1000)) ∷ Answered 1 (Refused (Stale (Some 0) 1001 1000)) 0 ∷ []
 beyond = refl
 
 -- an ask that has waited as long as it may
-times_out : (world three (Then (Then run9 (Clock 10000)) (At (97 ∷ []) Tick))).book ≡ Asked 1 (97 ∷ []) linearizable ∷ Answered 1 (Timeout 0 10000) 0 ∷ []
+times_out : (world three (Then (Then run9 (Clock 10000)) (At (97 ∷ []) Tick))).book ≡ Asked 1 (97 ∷ []) linearizable ∷ Answered 1 (Refused (Timeout 0 10000)) 0 ∷ []
 times_out = refl
 
 waits_still : (world three (Then (Then run9 (Clock 9999)) (At (97 ∷ []) Tick))).book ≡ Asked 1 (97 ∷ []) linearizable ∷ []
@@ -120,6 +129,7 @@ commits_alone : commit_of ((world alone run2).nodes (97 ∷ [])) ≡ 1
 commits_alone = refl
 
 reads_alone : (world alone (Then (Then run2 (At (97 ∷ []) Apply)) (At (97 ∷ []) (Ask 1 10000 linearizable)))).book ≡ Asked 1 (97 ∷ []) linearizable ∷ Answered 1 (Results []) 1 ∷ []
+unfolding engine.answer engine.run
 reads_alone = refl
 
 -- ---- a leader that another has followed, and doesn't know it
@@ -134,7 +144,7 @@ commits_later : commit_of ((world three followed).nodes (98 ∷ [])) ≡ 2
 commits_later = refl
 
 abbrev wrote : Run
-wrote = Then (Then (Then followed (At (98 ∷ []) (Ask 1 10000 (Write [])))) (At (99 ∷ []) (Deliver 14))) (At (98 ∷ []) (Deliver 15))
+wrote = Then (Then (Then followed (At (98 ∷ []) (Ask 1 10000 (Write nothing false)))) (At (99 ∷ []) (Deliver 14))) (At (98 ∷ []) (Deliver 15))
 
 commits_write : commit_of ((world three wrote).nodes (98 ∷ [])) ≡ 3
 unfolding spelling.u32_bytes
@@ -153,35 +163,35 @@ replied_again = Then (Then asks_old (At (97 ∷ []) (Deliver 5))) (At (97 ∷ []
 
 -- .. nor time make the pass ready: the weak read answers the old value, the linearizable one is not answered
 deposed : (world three (Then (Then replied_again (Clock 10000)) (At (97 ∷ []) Tick))).book
-    ≡ Asked 1 (98 ∷ []) (Write []) ∷ Answered 1 (Results []) 3 ∷ Asked 2 (97 ∷ []) linearizable ∷ Asked 3 (97 ∷ []) (Read [] level.Weak None) ∷ Answered 3 (Results []) 1 ∷ Answered 2 (Timeout 0 10000) 1 ∷ []
-unfolding spelling.u32_bytes
+    ≡ Asked 1 (98 ∷ []) (Write nothing false) ∷ Answered 1 (Results []) 3 ∷ Asked 2 (97 ∷ []) linearizable ∷ Asked 3 (97 ∷ []) (Read [] level.Weak None) ∷ Answered 3 (Results []) 1 ∷ Answered 2 (Refused (Timeout 0 10000)) 1 ∷ []
+unfolding spelling.u32_bytes engine.answer engine.run
 deposed = refl
 
 -- ---- a new leader's read waits for its term's first entry
 
 abbrev first_write : Run
-first_write = Then (Then (Then (Then (Then run8 (At (97 ∷ []) (Ask 1 10000 (Write [])))) (At (98 ∷ []) (Deliver 6))) (At (97 ∷ []) (Deliver 7))) (At (97 ∷ []) Apply)) (At (97 ∷ []) Apply)
+first_write = Then (Then (Then (Then (Then run8 (At (97 ∷ []) (Ask 1 10000 (Write nothing false)))) (At (98 ∷ []) (Deliver 6))) (At (97 ∷ []) (Deliver 7))) (At (97 ∷ []) Apply)) (At (97 ∷ []) Apply)
 
 abbrev new_leader : Run
 new_leader = Then (Then (Then (Then first_write (Start (99 ∷ []) 0)) (At (98 ∷ []) Elect)) (At (99 ∷ []) (Deliver 9))) (At (98 ∷ []) (Deliver 10))
 
 not_yet : (world three (Then (Then (Then (Then new_leader (At (98 ∷ []) (Ask 2 10000 linearizable))) (At (99 ∷ []) (Deliver 14))) (At (98 ∷ []) (Deliver 15))) (At (98 ∷ []) Apply))).book
-    ≡ Asked 1 (97 ∷ []) (Write []) ∷ Answered 1 (Results []) 2 ∷ Asked 2 (98 ∷ []) linearizable ∷ []
-unfolding spelling.u32_bytes
+    ≡ Asked 1 (97 ∷ []) (Write nothing false) ∷ Answered 1 (Results []) 2 ∷ Asked 2 (98 ∷ []) linearizable ∷ []
+unfolding spelling.u32_bytes engine.answer engine.run
 not_yet = refl
 
 -- ---- queued writes, at one voter
 
 -- one without wait and one with it
 abbrev queued2 : Run
-queued2 = Then (Then (Then (Then (Then First (Start (97 ∷ []) 0)) (At (97 ∷ []) Elect)) (At (97 ∷ []) Apply)) (At (97 ∷ []) (Ask 1 10000 (Queue [] false)))) (At (97 ∷ []) (Ask 2 10000 (Queue [] true)))
+queued2 = Then (Then (Then (Then (Then First (Start (97 ∷ []) 0)) (At (97 ∷ []) Elect)) (At (97 ∷ []) Apply)) (At (97 ∷ []) (Ask 1 10000 (Queue nothing false)))) (At (97 ∷ []) (Ask 2 10000 (Queue nothing true)))
 
-immediate_answer : (world alone queued2).book ≡ Asked 1 (97 ∷ []) (Queue [] false) ∷ Answered 1 (Queued 1) 1 ∷ Asked 2 (97 ∷ []) (Queue [] true) ∷ []
+immediate_answer : (world alone queued2).book ≡ Asked 1 (97 ∷ []) (Queue nothing false) ∷ Answered 1 (Queued 1) 1 ∷ Asked 2 (97 ∷ []) (Queue nothing true) ∷ []
 unfolding spelling.u32_bytes
 immediate_answer = refl
 
 -- one entry more, and the second is answered at its apply
-flushes : (world alone (Then (Then queued2 (At (97 ∷ []) Flush)) (At (97 ∷ []) Apply))).book ≡ Asked 1 (97 ∷ []) (Queue [] false) ∷ Answered 1 (Queued 1) 1 ∷ Asked 2 (97 ∷ []) (Queue [] true) ∷ Answered 2 (Queued 2) 2 ∷ []
+flushes : (world alone (Then (Then queued2 (At (97 ∷ []) Flush)) (At (97 ∷ []) Apply))).book ≡ Asked 1 (97 ∷ []) (Queue nothing false) ∷ Answered 1 (Queued 1) 1 ∷ Asked 2 (97 ∷ []) (Queue nothing true) ∷ Answered 2 (Queued 2) 2 ∷ []
 unfolding spelling.u32_bytes
 flushes = refl
 
@@ -190,7 +200,7 @@ unfolding spelling.u32_bytes
 batch = refl
 
 -- it times out, stays in the queue, and isn't answered again
-late : (world alone (Then (Then (Then (Then queued2 (Clock 10000)) (At (97 ∷ []) Tick)) (At (97 ∷ []) Flush)) (At (97 ∷ []) Apply))).book ≡ Asked 1 (97 ∷ []) (Queue [] false) ∷ Answered 1 (Queued 1) 1 ∷ Asked 2 (97 ∷ []) (Queue [] true) ∷ Answered 2 (Timeout 0 10000) 1 ∷ []
+late : (world alone (Then (Then (Then (Then queued2 (Clock 10000)) (At (97 ∷ []) Tick)) (At (97 ∷ []) Flush)) (At (97 ∷ []) Apply))).book ≡ Asked 1 (97 ∷ []) (Queue nothing false) ∷ Answered 1 (Queued 1) 1 ∷ Asked 2 (97 ∷ []) (Queue nothing true) ∷ Answered 2 (Refused (Timeout 0 10000)) 1 ∷ []
 unfolding spelling.u32_bytes
 late = refl
 
@@ -199,7 +209,7 @@ unfolding spelling.u32_bytes
 still_a_batch = refl
 
 -- a stop before the flush loses both, and the numbers begin again
-again : (world alone (Then (Then (Then (Then queued2 (Stop (97 ∷ []) Idle 0)) (Start (97 ∷ []) 0)) (At (97 ∷ []) Elect)) (At (97 ∷ []) (Ask 3 10000 (Queue [] false))))).book ≡ Asked 1 (97 ∷ []) (Queue [] false) ∷ Answered 1 (Queued 1) 1 ∷ Asked 2 (97 ∷ []) (Queue [] true) ∷ Asked 3 (97 ∷ []) (Queue [] false) ∷ Answered 3 (Queued 1) 0 ∷ []
+again : (world alone (Then (Then (Then (Then queued2 (Stop (97 ∷ []) Idle 0)) (Start (97 ∷ []) 0)) (At (97 ∷ []) Elect)) (At (97 ∷ []) (Ask 3 10000 (Queue nothing false))))).book ≡ Asked 1 (97 ∷ []) (Queue nothing false) ∷ Answered 1 (Queued 1) 1 ∷ Asked 2 (97 ∷ []) (Queue nothing true) ∷ Asked 3 (97 ∷ []) (Queue nothing false) ∷ Answered 3 (Queued 1) 0 ∷ []
 unfolding spelling.u32_bytes
 again = refl
 
@@ -243,4 +253,5 @@ whole = refl
 
 -- its reply makes a pass ready: the read begun before the beat is answered by it
 reads_by_snapshot : (world three (Then (Then (Then (Then (Then (Then (Then run8 (At (97 ∷ []) Apply)) (At (97 ∷ []) Compact)) (Start (99 ∷ []) 0)) (At (97 ∷ []) (Ask 1 10000 linearizable))) (At (97 ∷ []) Beat)) (At (99 ∷ []) (Deliver 9))) (At (97 ∷ []) (Deliver 10)))).book ≡ Asked 1 (97 ∷ []) linearizable ∷ Answered 1 (Results []) 1 ∷ []
+unfolding engine.answer engine.run
 reads_by_snapshot = refl

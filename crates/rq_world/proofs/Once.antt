@@ -4,8 +4,8 @@ use Rattle.std.proofs.lemmas.Bool.Decides.{nat_tests}
 use Rattle.std.specs.Prelude.{bytes_eq}
 use Rattle.rq_history.specs.History.{NodeId}
 use Rattle.rq_raft.specs.declared.role.Role.TheVariants.{Follower, Leader}
-use Rattle.rq_world.specs.declared.say.Say.{Say}
-use Rattle.rq_world.specs.declared.say.Answer.{Answer}
+use Rattle.rq_request.specs.declared.say.Say.{Say}
+use Rattle.rq_request.specs.declared.say.Answer.{Answer}
 use Rattle.rq_world.specs.Node.{Node}
 use Rattle.rq_world.specs.World.{Op, Note, Asked, Answered, NodeState, Running, Down, World, Act, Ask, Elect, Beat, Flush, Apply, Compact, Deliver, Tick, Idle, Event, Run as Events, First, Then, note_of, place_of, at_place, world}
 use Rattle.rq_world.specs.Laws.{Runs}

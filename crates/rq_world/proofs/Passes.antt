@@ -1,10 +1,11 @@
 -- Passes cover what was committed before them.
 use Rattle.std.proofs.Common.{◌≡◌, ◌⊎◌, ◌≤◌, ℕ, ◌+◌, ◌&&◌, not, List, [], ◌∷◌, length, Bool, slice_get, true, Option, Some, None, refl, sym, ◌∙◌, ap, subst, inl, arith}
 use Rattle.std.specs.Prelude.{nat_lt, nat_le, drop, bytes_eq}
+use Rattle.rq_statement.specs.Statements.{Statements}
 use Rattle.rq_statement.specs.declared.item.Item.{Item}
-use Rattle.rq_world.specs.declared.say.Say.TheVariants.{NoLeader, Stale, EntryTooLarge, QueuedTooLarge, Full}
-use Rattle.rq_statement.specs.Bytes.{execute_bytes}
-use Rattle.rq_world.specs.Commands.{strong_query_bytes}
+use Rattle.rq_request.specs.declared.say.Say.TheVariants.{Refused}
+use Rattle.rq_request.specs.declared.say.NodeRefusal.TheVariants.{NoLeader, Stale, EntryTooLarge, QueuedTooLarge, QueueFull}
+use Rattle.rq_statement.specs.Bytes.{command_bytes}
 use Rattle.rq_history.specs.Laws.{LeadersCover, TimeGoesOn, LeadersDontStandAgain}
 use Rattle.rq_raft.specs.declared.role.Role.{Role}
 use Rattle.rq_raft.specs.declared.role.Role.TheVariants.{Follower, Candidate, Leader}
@@ -16,14 +17,14 @@ use Rattle.rq_raft.specs.Deliver as deliver
 use Rattle.rq_raft.specs.Laws.{LeadOn}
 use Rattle.rq_raft.specs.Probes.{Hearing, heard_by, AllHeard, AllSigned, SaysHeard, Probes, Comes, LeadersCome, KeepProbes}
 use Rattle.rq_world.specs.declared.log_entry.LogEntry.{LogEntry}
-use Rattle.rq_world.specs.declared.log_entry.Content.{Content}
-use Rattle.rq_world.specs.declared.log_entry.Content.TheVariants.{Execute, StrongQuery}
+use Rattle.rq_statement.specs.declared.command.Command.{Command}
+use Rattle.rq_statement.specs.declared.command.Command.TheVariants.{Execute, StrongQuery}
 use Rattle.rq_world.specs.declared.waiting.Waiting.{Waiting}
-use Rattle.rq_world.specs.declared.level.Level.{Level}
-use Rattle.rq_world.specs.declared.level.Level.TheVariants as level
-use Rattle.rq_world.specs.Node.{QueuedWrite, Node, log_entries, Turn, unchanged, says}
+use Rattle.rq_request.specs.declared.ask.Level.{Level}
+use Rattle.rq_request.specs.declared.ask.Level.TheVariants as level
+use Rattle.rq_world.specs.Node.{QueuedWrite, Node, log_entries, Turn, unchanged, says, replica_of}
 use Rattle.rq_world.specs.Reads.{begin, is_stale, limit_of}
-use Rattle.rq_world.specs.Rules.{max_command_bytes, steps_down, stays_on, raft_turn, reads, counts, with_reads, receive, max_queued_bytes, queue_capacity, max_batch, appends, appended_for, enqueued, if_not_full, if_not_too_large, enqueue, batch, batch_waits, batch_entry, flushed, flush, proposed, if_leads, execute, query, begun, read, tick, applied_content, applied_entry, apply, compact}
+use Rattle.rq_world.specs.Rules.{max_command_bytes, steps_down, stays_on, raft_turn, reads, counts, with_reads, receive, max_queued_bytes, queue_capacity, max_batch, appends, appended_for, enqueued, if_not_full, if_not_too_large, enqueue, batch, batch_waits, batch_entry, flushed, flush, proposed, if_leads, query, begun, read, tick, applied_command, applied_entry, apply, compact, write, write_command}
 use Rattle.rq_world.specs.World.{Write, Queue, Read, Act, Ask, Elect, Beat, Flush, Apply, Compact, Deliver, Tick, Idle, act}
 use Rattle.rq_world.proofs.Tests.{if_case, and_true}
 use Rattle.rq_world.proofs.Given.{Given}
@@ -114,13 +115,13 @@ module _ (g : Given) (known : Known g) where
       (record { d = None; in_sent = λ p q. none_sent sent p q; probes = k.0; on = λ x y. p.2; comes = λ x. inl leads; hears = λ hearing mark new old y. k.1 hearing mark old y })
       (appends g.first n e waits queue) refl refl
 
-  proposed_probed : (sent : List (Packet LogEntry)) (n : Node) (number moment timeout : ℕ) (content : Content) (size : ℕ) → n.raft.role ≡ Leader → Probed sent n (proposed g.first n number moment timeout content size)
-  proposed_probed sent n number moment timeout content size leads = if_case (Probed sent n) (nat_lt max_command_bytes size) (says n number (EntryTooLarge size)) (appended_for g.first n number moment timeout (record { term = n.raft.term; content = content }))
-      (λ _. quiet_probed sent n (says n number (EntryTooLarge size)) refl refl)
-      (λ _. appends_probed sent n (record { term = n.raft.term; content = content }) (record { index = length n.raft.log + 1; number = number; asked = moment; timeout = timeout; position = 0; sequence = None } ∷ []) n.queue leads)
+  proposed_probed : (sent : List (Packet LogEntry)) (n : Node) (number moment timeout : ℕ) (command : Command) (size : ℕ) → n.raft.role ≡ Leader → Probed sent n (proposed g.first n number moment timeout command size)
+  proposed_probed sent n number moment timeout command size leads = if_case (Probed sent n) (nat_lt max_command_bytes size) (says n number (Refused (EntryTooLarge size))) (appended_for g.first n number moment timeout (record { term = n.raft.term; command = command }))
+      (λ _. quiet_probed sent n (says n number (Refused (EntryTooLarge size))) refl refl)
+      (λ _. appends_probed sent n (record { term = n.raft.term; command = command }) (record { index = length n.raft.log + 1; number = number; asked = moment; timeout = timeout; position = 0; sequence = None } ∷ []) n.queue leads)
 
   led_probed : (sent : List (Packet LogEntry)) (n : Node) (number : ℕ) (t : Turn) → (n.raft.role ≡ Leader → Probed sent n t) → Probed sent n (if_leads g.first n number t)
-  led_probed sent n number t f = if_case (Probed sent n) (is_leader n.raft.role) t (says n number (NoLeader n.raft.term)) (λ q. f (leads_yes n.raft.role q)) (λ _. quiet_probed sent n (says n number (NoLeader n.raft.term)) refl refl)
+  led_probed sent n number t f = if_case (Probed sent n) (is_leader n.raft.role) t (says n number (Refused (NoLeader n.raft.term))) (λ q. f (leads_yes n.raft.role q)) (λ _. quiet_probed sent n (says n number (Refused (NoLeader n.raft.term))) refl refl)
 
   reads_probed : (sent : List (Packet LogEntry)) (n : Node) (t : Turn) → Probed sent n t → Probed sent n (reads g.first t)
   reads_probed sent n t a = record { delivered = a.delivered; in_sent = a.in_sent; id = a.id; signed = a.signed; rises = a.rises; on = a.on; comes = a.comes; hears = a.hears }
@@ -134,30 +135,31 @@ module _ (g : Given) (known : Known g) where
       beat_comes n = if_case (Comes n.raft) (is_leader n.raft.role) (lead.send log_entries g.first (λ p. true) (raft_quiet n.raft)) (raft_quiet n.raft) (λ _ q. inl q) (λ _ q. inl q)
 
   read_probed : (sent : List (Packet LogEntry)) (n : Node) (number moment timeout : ℕ) (items : List Item) (l : Level) (limit : Option ℕ) → Probed sent n (read g.first n number moment timeout items l limit)
-  read_probed sent n number moment timeout items level.None limit = if_case (Probed sent n) (is_stale n.raft limit moment) (says n number (Stale n.raft.contact moment (limit_of limit))) (query g.first n number items)
-      (λ _. quiet_probed sent n (says n number (Stale n.raft.contact moment (limit_of limit))) refl refl) (λ _. quiet_probed sent n (query g.first n number items) refl refl)
+  read_probed sent n number moment timeout items level.None limit = if_case (Probed sent n) (is_stale n.raft limit moment) (says n number (Refused (Stale n.raft.contact moment (limit_of limit)))) (query g.first n number items)
+      (λ _. quiet_probed sent n (says n number (Refused (Stale n.raft.contact moment (limit_of limit)))) refl refl) (λ _. quiet_probed sent n (query g.first n number items) refl refl)
   read_probed sent n number moment timeout items level.Weak limit = led_probed sent n number (query g.first n number items) (λ _. quiet_probed sent n (query g.first n number items) refl refl)
   read_probed sent n number moment timeout items level.Linearizable limit =
       let t = begun g.first n number moment timeout items (begin g.first n.raft) in
       led_probed sent n number (reads g.first t) (λ _. reads_probed sent n t (raft_probed sent n (begin g.first n.raft) (beat_probed sent n) t refl refl))
   read_probed sent n number moment timeout items level.Strong limit =
-      let size = length (strong_query_bytes items) in
+      let size = length (command_bytes (StrongQuery items)) in
       led_probed sent n number (proposed g.first n number moment timeout (StrongQuery items) size) (proposed_probed sent n number moment timeout (StrongQuery items) size)
 
-  execute_probed : (sent : List (Packet LogEntry)) (n : Node) (number moment timeout : ℕ) (items : List Item) → Probed sent n (execute g.first n number moment timeout items)
-  execute_probed sent n number moment timeout items =
-      let size = length (execute_bytes items) in
-      led_probed sent n number (proposed g.first n number moment timeout (Execute items) size) (proposed_probed sent n number moment timeout (Execute items) size)
+  write_probed : (sent : List (Packet LogEntry)) (n : Node) (number moment timeout : ℕ) (list : Statements) (mixed : Bool) → Probed sent n (write g.first n number moment timeout list mixed)
+  write_probed sent n number moment timeout list mixed =
+      let command = write_command list mixed in
+      let size = length (command_bytes command) in
+      led_probed sent n number (proposed g.first n number moment timeout command size) (proposed_probed sent n number moment timeout command size)
 
-  queued_probed : (sent : List (Packet LogEntry)) (n : Node) (number moment timeout : ℕ) (items : List Item) (waits : Bool) → Probed sent n (enqueue g.first n number moment timeout items waits)
-  queued_probed sent n number moment timeout items waits =
-      let size = length (execute_bytes items) in
+  queued_probed : (sent : List (Packet LogEntry)) (n : Node) (number moment timeout : ℕ) (list : Statements) (waits : Bool) → Probed sent n (enqueue g.first n number moment timeout list waits)
+  queued_probed sent n number moment timeout list waits =
+      let size = length (command_bytes (Execute list)) in
       let held = length n.queue in
-      let t = enqueued g.first n number moment timeout items waits in
+      let t = enqueued g.first n number moment timeout list waits in
       led_probed sent n number (if_not_too_large g.first n number size (if_not_full g.first n number t)) (λ _.
-      if_case (Probed sent n) (nat_lt max_queued_bytes size) (says n number (QueuedTooLarge size)) (if_not_full g.first n number t)
-      (λ _. quiet_probed sent n (says n number (QueuedTooLarge size)) refl refl)
-      (λ _. if_case (Probed sent n) (nat_le queue_capacity held) (says n number (Full held)) t (λ _. quiet_probed sent n (says n number (Full held)) refl refl) (λ _. quiet_probed sent n t refl refl)))
+      if_case (Probed sent n) (nat_lt max_queued_bytes size) (says n number (Refused (QueuedTooLarge size))) (if_not_full g.first n number t)
+      (λ _. quiet_probed sent n (says n number (Refused (QueuedTooLarge size))) refl refl)
+      (λ _. if_case (Probed sent n) (nat_le queue_capacity held) (says n number (Refused (QueueFull held))) t (λ _. quiet_probed sent n (says n number (Refused (QueueFull held))) refl refl) (λ _. quiet_probed sent n t refl refl)))
 
   flush_probed : (sent : List (Packet LogEntry)) (n : Node) → Probed sent n (flush g.first n)
   flush_probed sent n = if_case (Probed sent n) (is_leader n.raft.role && nat_lt 0 (length n.queue)) (flushed g.first n) (unchanged n)
@@ -170,7 +172,7 @@ module _ (g : Given) (known : Known g) where
     where
       entry : (o : Option LogEntry) → Probed sent n (applied_entry g.first n o)
       entry None = quiet_probed sent n (unchanged n) refl refl
-      entry (Some e) = reads_probed sent n (applied_content n e.content) (same_probed sent n (applied_content n e.content) (record n.raft { applied = n.raft.applied + 1 }) refl refl refl refl refl refl refl)
+      entry (Some e) = reads_probed sent n (applied_command n e.command) (same_probed sent n (applied_command n e.command) (record n.raft { applied = n.raft.applied + 1 }) refl refl refl refl refl refl refl)
 
   compact_probed : (sent : List (Packet LogEntry)) (n : Node) → Probed sent n (compact n)
   compact_probed sent n = if_case (Probed sent n) (is_leader n.raft.role && not (is_leader (Rattle.rq_raft.specs.Install.compact n.raft).node.role)) (steps_down n (Rattle.rq_raft.specs.Install.compact n.raft)) (stays_on n (Rattle.rq_raft.specs.Install.compact n.raft))
@@ -201,13 +203,13 @@ module _ (g : Given) (known : Known g) where
       with_probed (VoteSay granted) t a = a
       with_probed (Append prev prev_term commit probe es) t a = a
       with_probed (AppendSay ok upto probe) t a = if_case (Probed sent n) (counts g.first n p upto) (reads g.first t) t (λ _. reads_probed sent n t a) (λ _. a)
-      with_probed (Install probe list) t a = if_case (Probed sent n) (nat_lt n.raft.applied t.node.raft.applied) (record t { node = record t.node { database = Rattle.rq_world.specs.Rules.replica list } }) t
+      with_probed (Install probe list) t a = if_case (Probed sent n) (nat_lt n.raft.applied t.node.raft.applied) (record t { node = record t.node { replica = replica_of g.first list } }) t
           (λ _. record { delivered = a.delivered; in_sent = a.in_sent; id = a.id; signed = a.signed; rises = a.rises; on = a.on; comes = a.comes; hears = a.hears }) (λ _. a)
       with_probed (InstallSay upto probe) t a = if_case (Probed sent n) (counts g.first n p upto) (reads g.first t) t (λ _. reads_probed sent n t a) (λ _. a)
 
   pub act_probed : (sent : List (Packet LogEntry)) (moment : ℕ) (n : Node) (a : Act) → Probed sent n (act g.first sent moment n a)
-  act_probed sent moment n (Ask number timeout (Write items)) = execute_probed sent n number moment timeout items
-  act_probed sent moment n (Ask number timeout (Queue items wait)) = queued_probed sent n number moment timeout items wait
+  act_probed sent moment n (Ask number timeout (Write list mixed)) = write_probed sent n number moment timeout list mixed
+  act_probed sent moment n (Ask number timeout (Queue list wait)) = queued_probed sent n number moment timeout list wait
   act_probed sent moment n (Ask number timeout (Read items level limit)) = read_probed sent n number moment timeout items level limit
   act_probed sent moment n Elect =
       let k = known.probes.elects n.raft in

@@ -1,14 +1,16 @@
 -- Each acknowledged write has a place of its own.
 use Rattle.std.proofs.Common.{◌≡◌, ◌⊎◌, ℕ, ◌+◌, ◌-◌, List, [], ◌∷◌, ◌++◌, length, slice_get, true, Option, Some, None, refl, sym, ◌∙◌, ap, subst, inl, inr, ⊎_elim, arith}
 use Rattle.rq_statement.specs.declared.item.Item.{Item}
-use Rattle.rq_world.specs.declared.say.Say.{Say}
+use Rattle.rq_request.specs.declared.say.Say.{Say}
 use Rattle.rq_history.specs.History.{NodeId}
 use Rattle.rq_history.specs.Laws.{LaterEntriesCover}
 use Rattle.rq_raft.specs.Entries.{entry_view}
 use Rattle.rq_raft.specs.declared.role.Role.TheVariants.{Follower, Leader}
 use Rattle.rq_world.specs.declared.log_entry.LogEntry.{LogEntry}
-use Rattle.rq_world.specs.declared.log_entry.Content.{Content}
-use Rattle.rq_world.specs.declared.log_entry.Content.TheVariants.{Execute}
+use Rattle.rq_statement.specs.declared.command.Command.{Command}
+use Rattle.rq_statement.specs.declared.command.Command.TheVariants.{Execute}
+use Rattle.rq_statement.specs.Statements.{Statements}
+use Rattle.rq_world.specs.Rules.{write_command}
 use Rattle.rq_world.specs.declared.waiting.Waiting.{Waiting}
 use Rattle.rq_world.specs.Node.{Node, log_entries}
 use Rattle.rq_world.specs.World.{Op, Write, Queue, Read, Note, Act, Ask, Event, Run as Events, First, Then, world}
@@ -19,7 +21,7 @@ use Rattle.rq_world.proofs.Given.{Given}
 use Rattle.rq_world.proofs.Safety.{here}
 use Rattle.rq_world.proofs.Prefixes.{get_within}
 use Rattle.rq_world.proofs.Histories.{op_kept}
-use Rattle.rq_world.proofs.Waits.{ContentFits, Waits, AllWait, ascends_get}
+use Rattle.rq_world.proofs.Waits.{CommandFits, Waits, AllWait, ascends_get}
 use Rattle.rq_world.proofs.Promises.{Sound, sound}
 use Rattle.rq_world.proofs.Passes.{Known}
 use Rattle.rq_world.proofs.Covering.{Acted, Still, kind, t, pr, who_runs}
@@ -34,26 +36,26 @@ wait_has book log term (x ∷ ws) w all (inl e) = subst (Waits book log term) e 
 wait_has book log term (x ∷ ws) w all (inr h) = wait_has book log term ws w all.1 h
 
 -- the entry for which a write waits holds it
-fits_holds : (op : Op) (position : ℕ) (s : Option ℕ) (content : Content) (say : Say) → IsAcknowledged (Some op) say → ContentFits op position s content → Holds op position content
-fits_holds (Write items) position None content say ack f = (f.1, some content (Execute items) (sym f.0))
+fits_holds : (op : Op) (position : ℕ) (s : Option ℕ) (command : Command) (say : Say) → IsAcknowledged (Some op) say → CommandFits op position s command → Holds op position command
+fits_holds (Write list mixed) position None command say ack f = (f.1, some command (write_command list mixed) (sym f.0))
   where
-    some : (a b : Content) → Some a ≡ Some b → a ≡ b
+    some : (a b : Command) → Some a ≡ Some b → a ≡ b
     some a b e = cc
-fits_holds (Write items) position (Some k) content say ack f = absurd (differ f.items f.is_queue)
+fits_holds (Write list mixed) position (Some k) command say ack f = absurd (differ f.list f.is_queue)
   where
-    differ : (more : List Item) → Write items ≡ Queue more true → Prim.⊥
+    differ : (more : Statements) → Write list mixed ≡ Queue more true → Prim.⊥
     differ more e = cc
-fits_holds (Queue items wait) position None content say ack f = absurd (differ f.0)
+fits_holds (Queue list wait) position None command say ack f = absurd (differ f.0)
   where
-    differ : None ≡ Some content → Prim.⊥
+    differ : None ≡ Some command → Prim.⊥
     differ e = cc
-fits_holds (Queue items wait) position (Some k) content say ack f = (f.lists, f.is_batch, f.has ∙ ap Some (sym (ap items_of f.is_queue)))
+fits_holds (Queue list wait) position (Some k) command say ack f = (f.lists, f.is_batch, f.has ∙ ap Some (sym (ap list_of f.is_queue)))
   where
-    items_of : Op → List Item
-    items_of (Write more) = more
-    items_of (Queue more wait) = more
-    items_of (Read more l limit) = more
-fits_holds (Read items l limit) position s content say ack f = absurd ack
+    list_of : Op → Statements
+    list_of (Write more mixed) = more
+    list_of (Queue more wait) = more
+    list_of (Read more l limit) = list
+fits_holds (Read items l limit) position s command say ack f = absurd ack
 
 module _ (g : Given) (known : Known g) (later : LaterEntriesCover (entry_view log_entries)) where
   appended_on : (run : Events) (e : Event) (number term index position : ℕ) → IsAppended g.first run number term index position → IsAppended g.first (Then run e) number term index position
@@ -113,8 +115,8 @@ module _ (g : Given) (known : Known g) (later : LaterEntriesCover (entry_view lo
 
     from : AllAppended run → Runs g.first (Then run e) a.who tn → (w : Waiting) → HasWaiting w tn.waiting → WaitingFrom g a.node a.act w → IsAppended g.first (Then run e) w.number tn.raft.term w.index w.position
     from b up w h (inl old) =
-        let leads = has_lead (book_of g known run) a.node (s.serve a.who a.node a.runs) w old in
-        let lead = has_lead (book_of g known (Then run e)) tn (next.serve a.who tn up) w h in
+        let leads = has_lead g.first (book_of g known run) a.node (s.serve a.who a.node a.runs) w old in
+        let lead = has_lead g.first (book_of g known (Then run e)) tn (next.serve a.who tn up) w h in
         subst (λ (k : ℕ). IsAppended g.first (Then run e) w.number k w.index w.position) (sym ((pr g known run e a).on leads lead)) (appended_on run e w.number a.node.raft.term w.index w.position (b a.who a.node a.runs w old))
     from b up w h (inr (inl x)) = made up w h x.leads x.index (subst (λ (y : Act). AppendsFor g.first a.node y w.number w.position) (sym x.act) (refl, x.position))
     from b up w h (inr (inr x)) = made up w h x.leads x.index (subst (λ (y : Act). AppendsFor g.first a.node y w.number w.position) (sym x.act) (x.held, x.found, x.number_is))
@@ -193,7 +195,7 @@ module _ (g : Given) (known : Known g) (later : LaterEntriesCover (entry_view lo
           appended = appended_on run e number n.waits.entry.term place n.waiting.position (new_appended m number place n);
           op = n.waits.op;
           asked = asked;
-          holds = fits_holds n.waits.op n.waiting.position n.waiting.sequence n.waits.entry.content say (subst (λ (o : Option Op). IsAcknowledged o say) asked w.1) n.waits.fits;
+          holds = fits_holds n.waits.op n.waiting.position n.waiting.sequence n.waits.entry.command say (subst (λ (o : Option Op). IsAcknowledged o say) asked w.1) n.waits.fits;
         }
 
     -- those that waited at one place were one

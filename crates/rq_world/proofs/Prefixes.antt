@@ -1,10 +1,11 @@
--- Prefixes of lists, and what a log makes of a database.
+-- Prefixes of lists, and what a log makes of a replica.
 use Rattle.std.proofs.Common.{◌≡◌, ◌<◌, ◌≤◌, ℕ, zero, suc, ◌+◌, List, [], ◌∷◌, ◌++◌, length, take, drop, slice_get, Option, Some, None, refl, sym, ◌∙◌, ap, subst, append_assoc, arith}
 use Rattle.std.proofs.lemmas.List.{append-nil, take-append-drop, take-append-le, length-append}
-use Rattle.rq_engine.specs.Database.{Database}
+use Rattle.rq_statement.specs.declared.command.Command.{Command}
+use Rattle.rq_engine.specs.Fold.{State, run, after}
 use Rattle.rq_world.specs.declared.log_entry.LogEntry.{LogEntry}
-use Rattle.rq_world.specs.Rules.{database_after}
-use Rattle.rq_world.specs.Promise.{IsPrefix, replayed}
+use Rattle.rq_world.specs.Node.{commands}
+use Rattle.rq_world.specs.Promise.{IsPrefix}
 
 module _ {T : Type 0} where
   pub begins_same : (xs : List T) → IsPrefix xs xs
@@ -60,9 +61,16 @@ module _ {T : Type 0} where
       or_empty (Some z) = z ∷ []
   take_next (y ∷ a) (suc k) x is = let next : suc k + 1 ≡ suc (k + 1) = omega arith in ap (λ (n : ℕ). take n (y ∷ a)) next ∙ ap (λ (l : List T). y ∷ l) (take_next a k x is)
 
-pub replayed_on : (database : Database) (a b : List LogEntry) → replayed database (a ++ b) ≡ replayed (replayed database a) b
-replayed_on database [] b = refl
-replayed_on database (entry ∷ a) b = replayed_on (database_after database entry.content) a b
+after_on : (state : State) (a b : List Command) → after state (a ++ b) ≡ after (after state a) b
+after_on state [] b = refl
+after_on state (command ∷ a) b = after_on (run state command).0 a b
+
+commands_both : (a b : List LogEntry) → commands (a ++ b) ≡ commands a ++ commands b
+commands_both [] b = refl
+commands_both (entry ∷ a) b = ap (λ (l : List Command). entry.command ∷ l) (commands_both a b)
+
+pub replayed_on : (state : State) (a b : List LogEntry) → after state (commands (a ++ b)) ≡ after (after state (commands a)) (commands b)
+replayed_on state a b = ap (after state) (commands_both a b) ∙ after_on state (commands a) (commands b)
 
 pub prefix_begins : {T : Type 0} (a b : List T) → take (length a) b ≡ a → IsPrefix a b
 prefix_begins a b f = (drop (length a) b, ap (λ l. l ++ drop (length a) b) (sym f) ∙ take-append-drop (length a) b)

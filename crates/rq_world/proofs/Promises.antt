@@ -3,14 +3,16 @@ use Rattle.std.proofs.Common.{◌≡◌, ◌⊎◌, ◌<◌, ◌≤◌, ℕ, ◌
 use Rattle.std.specs.Prelude.{nat_lt, nat_le, nat_eq, bytes_eq, max}
 use Rattle.std.proofs.lemmas.Bool.{cases_lt}
 use Rattle.std.proofs.lemmas.List.{append-nil, length-take, length-take-le, take-take}
+use Rattle.rq_statement.specs.Statements.{Statements}
 use Rattle.rq_statement.specs.declared.item.Item.{Item}
-use Rattle.rq_world.specs.declared.say.Say.{Say}
-use Rattle.rq_world.specs.declared.say.Say.TheVariants.{Results, Queued, NoLeader, Stale, EntryTooLarge, QueuedTooLarge, Full}
+use Rattle.rq_wire.specs.declared.config.Member.{Member}
+use Rattle.rq_request.specs.declared.say.Say.{Say}
+use Rattle.rq_request.specs.declared.say.Say.TheVariants.{Results, Queued, Refused}
+use Rattle.rq_request.specs.declared.say.NodeRefusal.TheVariants.{NoLeader, Stale, EntryTooLarge, QueuedTooLarge, QueueFull}
 use Rattle.rq_statement.specs.declared.res.Res.{Res}
-use Rattle.rq_engine.specs.Database.{Database}
-use Rattle.rq_statement.specs.Bytes.{execute_bytes}
-use Rattle.rq_world.specs.Commands.{strong_query_bytes}
-use Rattle.rq_engine.specs.Meaning.{answers}
+use Rattle.rq_engine.specs.Fold.{State}
+use Rattle.rq_statement.specs.Bytes.{command_bytes}
+use Rattle.rq_engine.specs.Fold.{answer}
 use Rattle.rq_history.specs.History.{NodeId, IsPrefixOf}
 use Rattle.rq_raft.specs.declared.role.Role.{Role}
 use Rattle.rq_raft.specs.declared.role.Role.TheVariants.{Follower, Candidate, Leader}
@@ -21,15 +23,15 @@ use Rattle.rq_raft.specs.Deliver as deliver
 use Rattle.rq_raft.specs.Laws.{LeadOn, LeadsOn, Installed}
 use Rattle.rq_raft.specs.Install as install
 use Rattle.rq_world.specs.declared.log_entry.LogEntry.{LogEntry}
-use Rattle.rq_world.specs.declared.log_entry.Content.{Content}
-use Rattle.rq_world.specs.declared.log_entry.Content.TheVariants.{Execute, StrongQuery}
-use Rattle.rq_world.specs.declared.level.Level.{Level}
-use Rattle.rq_world.specs.declared.level.Level.TheVariants as level
-use Rattle.rq_world.specs.Node.{Node, persistent_of, log_entries, Turn, unchanged, says}
+use Rattle.rq_statement.specs.declared.command.Command.{Command}
+use Rattle.rq_statement.specs.declared.command.Command.TheVariants.{Execute, StrongQuery}
+use Rattle.rq_request.specs.declared.ask.Level.{Level}
+use Rattle.rq_request.specs.declared.ask.Level.TheVariants as level
+use Rattle.rq_world.specs.Node.{Node, persistent_of, log_entries, Turn, unchanged, says, replica_of}
 use Rattle.rq_world.specs.Reads.{pass_of, begin, is_stale, limit_of}
-use Rattle.rq_world.specs.Rules.{max_command_bytes, max_queued_bytes, queue_capacity, max_batch, immediate_answer, enqueued, if_not_full, if_not_too_large, enqueue, batch, batch_waits, batch_entry, flushed, flush, stays_on, steps_down, raft_turn, reads, counts, with_reads, restored, due_answers, not_due, receive, appended_for, proposed, if_leads, execute, query, begun, read, live_waiting, live_reads, tick, still_waiting, applied_content, applied_entry, apply, started}
+use Rattle.rq_world.specs.Rules.{max_command_bytes, max_queued_bytes, queue_capacity, max_batch, immediate_answer, enqueued, if_not_full, if_not_too_large, enqueue, batch, batch_waits, batch_entry, flushed, flush, stays_on, steps_down, raft_turn, reads, counts, with_reads, restored, due_answers, not_due, receive, appended_for, proposed, if_leads, query, begun, read, live_waiting, live_reads, tick, still_waiting, applied_command, applied_entry, apply, started, write, write_command}
 use Rattle.rq_world.specs.World.{Op, Write, Queue, Read, Note, Asked, NodeState, Running, Down, World, Act, Ask, Elect, Beat, Flush, Apply, Compact, Deliver, Tick, Idle, Event, At, Stop, Fail, Start, FailStart, Clock, Run as Events, First, Then, turn, set_node, note_of, place_of, at_place, acted, noted, happens_at, stops_at, fails_at, starts_at, fails_start, members, world, chosen}
-use Rattle.rq_world.specs.Promise.{replica, IsPrefix, op_of, IsValue, IsResults, IsRight, number_of, asked_in, IsNew, IsNumbered, EachMomentIsKept}
+use Rattle.rq_world.specs.Promise.{IsPrefix, op_of, IsValue, IsResults, IsRight, number_of, asked_in, IsNew, IsNumbered, EachMomentIsKept}
 use Rattle.rq_world.proofs.Tests.{if_case, and_true, lt_true, id_true, id_self}
 use Rattle.rq_world.proofs.Given.{Given}
 use Rattle.rq_world.proofs.Safety.{here, done, fits, been_prefixes, HasBeen, grows, holds}
@@ -38,8 +40,8 @@ use Rattle.rq_world.proofs.Histories.{RightNote, AllRight, all_get, all_both, al
 use Rattle.rq_world.proofs.Waits.{entry_of, AllWait, AllHeld, held_more, held_both, held_late, held_take, held_drop, Ascends, ascends_late, ascends_left, ascends_both, batch_from, batch_ascends, lists_of, batch_wait, wait_more, wait_both, wait_left, wait_late, read_late, late_right, AllRead, read_more, read_both, read_left, due_right, lost_right, folds, answers_right}
 
 -- a running node is a replica, and what waits there waits for its own entry; who doesn't lead has nothing that waits
-pub record Serves (book : List Note) (n : Node) : Type 0 where
-  pub database : n.database ≡ replica (take n.raft.applied n.raft.log)
+pub record Serves (first : List Member) (book : List Note) (n : Node) : Type 0 where
+  pub replica : n.replica ≡ replica_of first (take n.raft.applied n.raft.log)
   pub waits : AllWait book n.raft.log n.raft.term n.waiting
   pub pending_reads : AllRead book n.pending_reads
   pub queue : AllHeld book n.queue
@@ -50,8 +52,8 @@ module _ (g : Given) (lead_on : LeadOn log_entries g.first) where
   -- what is proved of each moment
   pub record Sound (run : Events) : Type 0 where
     pub members_only : (i : NodeId) (n : Node) → (world g.first run).nodes i ≡ Running n → one_of (members g.first) i ≡ true
-    pub serve : (i : NodeId) (n : Node) → (world g.first run).nodes i ≡ Running n → Serves (world g.first run).book n
-    pub right : AllRight (chosen g.first run) (world g.first run).book (world g.first run).book
+    pub serve : (i : NodeId) (n : Node) → (world g.first run).nodes i ≡ Running n → Serves g.first (world g.first run).book n
+    pub right : AllRight g.first (chosen g.first run) (world g.first run).book (world g.first run).book
 
   -- ---- prefixes
 
@@ -143,7 +145,7 @@ module _ (g : Given) (lead_on : LeadOn log_entries g.first) where
       same k = grind arith
 
   -- an act of a running member, in whose next world its node is that of this turn
-  module _ (run : Events) (i : NodeId) (n : Node) (a : Act) (member : one_of (members g.first) i ≡ true) (up : (world g.first run).nodes i ≡ Running n) (s : Serves (world g.first run).book n) where
+  module _ (run : Events) (i : NodeId) (n : Node) (a : Act) (member : one_of (members g.first) i ≡ true) (up : (world g.first run).nodes i ≡ Running n) (s : Serves g.first (world g.first run).book n) where
     abbrev more : Turn → List Note
     more t = note_of g.first i a ++ at_place g.first (place_of g.first n a) t.answers
 
@@ -152,8 +154,8 @@ module _ (g : Given) (lead_on : LeadOn log_entries g.first) where
 
     -- the turn's node serves, and what is noted is right
     pub record Did (t : Turn) : Type 0 where
-      pub serves : Serves (book t) t.node
-      pub noted : AllRight (chosen g.first (next run i a)) (book t) (more t)
+      pub serves : Serves g.first (book t) t.node
+      pub noted : AllRight g.first (chosen g.first (next run i a)) (book t) (more t)
 
     abbrev Performs : Turn → Type 0
     Performs t = IsUp (next run i a) i t.node.raft → Did t
@@ -162,8 +164,8 @@ module _ (g : Given) (lead_on : LeadOn log_entries g.first) where
     same_applied : (t : Turn) → IsUp (next run i a) i t.node.raft → t.node.raft.applied ≡ n.raft.applied → take n.raft.applied t.node.raft.log ≡ take n.raft.applied n.raft.log
     same_applied t u e = up_prefix run (At i a) i n t.node.raft up u n.raft.applied (done g run i n up) (subst (λ (k : ℕ). k ≤ t.node.raft.commit) e (up_done (next run i a) i t.node.raft u))
 
-    same_database : (t : Turn) → IsUp (next run i a) i t.node.raft → t.node.raft.applied ≡ n.raft.applied → n.database ≡ replica (take t.node.raft.applied t.node.raft.log)
-    same_database t u e = s.database ∙ ap replica (sym (same_applied t u e)) ∙ ap (λ (k : ℕ). replica (take k t.node.raft.log)) (sym e)
+    same_replica : (t : Turn) → IsUp (next run i a) i t.node.raft → t.node.raft.applied ≡ n.raft.applied → n.replica ≡ replica_of g.first (take t.node.raft.applied t.node.raft.log)
+    same_replica t u e = s.replica ∙ ap (replica_of g.first) (sym (same_applied t u e)) ∙ ap (λ (k : ℕ). replica_of g.first (take k t.node.raft.log)) (sym e)
 
     still_waits : (t : Turn) → AllWait (book t) n.raft.log n.raft.term n.waiting
     still_waits t = wait_more (world g.first run).book (more t) n.raft.log n.raft.log n.raft.term n.waiting (begins_same n.raft.log) s.waits
@@ -186,9 +188,9 @@ module _ (g : Given) (lead_on : LeadOn log_entries g.first) where
       where
         down : (is_leader n.raft.role && not (is_leader r.node.role)) ≡ true → Performs (steps_down n r)
         down e u = record {
-          serves = record { database = same_database (steps_down n r) u on.0; waits = tt; pending_reads = tt; queue = still_held (steps_down n r); order = tt; idle = λ q. (refl, refl) };
-          noted = all_both (chosen g.first (next run i a)) (book (steps_down n r)) (note_of g.first i a) (at_place g.first (place_of g.first n a) (steps_down n r).answers)
-              (subst (AllRight (chosen g.first (next run i a)) (book (steps_down n r))) (sym none) tt)
+          serves = record { replica = same_replica (steps_down n r) u on.0; waits = tt; pending_reads = tt; queue = still_held (steps_down n r); order = tt; idle = λ q. (refl, refl) };
+          noted = all_both g.first (chosen g.first (next run i a)) (book (steps_down n r)) (note_of g.first i a) (at_place g.first (place_of g.first n a) (steps_down n r).answers)
+              (subst (AllRight g.first (chosen g.first (next run i a)) (book (steps_down n r))) (sym none) tt)
               (lost_right g.first (chosen g.first (next run i a)) (book (steps_down n r)) n.raft.log n.raft.term (place_of g.first n a) n.raft.term r.node.term n (still_waits (steps_down n r)) (still_reads (steps_down n r)));
         }
 
@@ -203,35 +205,35 @@ module _ (g : Given) (lead_on : LeadOn log_entries g.first) where
         stays e u =
             let k = waits (is_leader n.raft.role) (is_leader r.node.role) refl refl e in
             record {
-              serves = record { database = same_database (stays_on n r) u on.0; waits = k.0; pending_reads = still_reads (stays_on n r); queue = still_held (stays_on n r); order = s.order; idle = k.1 };
-              noted = all_both (chosen g.first (next run i a)) (book (stays_on n r)) (note_of g.first i a) [] (subst (AllRight (chosen g.first (next run i a)) (book (stays_on n r))) (sym none) tt) tt;
+              serves = record { replica = same_replica (stays_on n r) u on.0; waits = k.0; pending_reads = still_reads (stays_on n r); queue = still_held (stays_on n r); order = s.order; idle = k.1 };
+              noted = all_both g.first (chosen g.first (next run i a)) (book (stays_on n r)) (note_of g.first i a) [] (subst (AllRight g.first (chosen g.first (next run i a)) (book (stays_on n r))) (sym none) tt) tt;
             }
 
     -- the node stays as it is
-    idles : (t : Turn) → t.node ≡ n → Serves (book t) t.node
-    idles t e = subst (Serves (book t)) (sym e) (record { database = s.database; waits = still_waits t; pending_reads = still_reads t; queue = still_held t; order = s.order; idle = s.idle })
+    idles : (t : Turn) → t.node ≡ n → Serves g.first (book t) t.node
+    idles t e = subst (Serves g.first (book t)) (sym e) (record { replica = s.replica; waits = still_waits t; pending_reads = still_reads t; queue = still_held t; order = s.order; idle = s.idle })
 
     tick_does : (now : ℕ) → note_of g.first i a ≡ [] → Performs (tick n now)
     tick_does now none u =
         let t = tick n now in
         record {
           serves = record {
-            database = s.database;
+            replica = s.replica;
             waits = wait_late (book t) n.raft.log n.raft.term now n.waiting (still_waits t);
             pending_reads = read_late (book t) now n.pending_reads (still_reads t);
             queue = held_late (book t) now n.queue (still_held t);
             order = ascends_late now n.waiting s.order;
             idle = λ no. let p = s.idle no in (ap (live_waiting now) p.0, ap (live_reads now) p.1);
           };
-          noted = all_both (chosen g.first (next run i a)) (book t) (note_of g.first i a) (at_place g.first (place_of g.first n a) t.answers)
-              (subst (AllRight (chosen g.first (next run i a)) (book t)) (sym none) tt)
+          noted = all_both g.first (chosen g.first (next run i a)) (book t) (note_of g.first i a) (at_place g.first (place_of g.first n a) t.answers)
+              (subst (AllRight g.first (chosen g.first (next run i a)) (book t)) (sym none) tt)
               (late_right g.first (chosen g.first (next run i a)) (book t) n.raft.log n.raft.term (place_of g.first n a) now n (still_waits t) (still_reads t) (still_held t));
         }
 
     quiet_does : note_of g.first i a ≡ [] → Performs (unchanged n)
     quiet_does none u = record {
       serves = idles (unchanged n) refl;
-      noted = all_both (chosen g.first (next run i a)) (book (unchanged n)) (note_of g.first i a) [] (subst (AllRight (chosen g.first (next run i a)) (book (unchanged n))) (sym none) tt) tt;
+      noted = all_both g.first (chosen g.first (next run i a)) (book (unchanged n)) (note_of g.first i a) [] (subst (AllRight g.first (chosen g.first (next run i a)) (book (unchanged n))) (sym none) tt) tt;
     }
 
     -- Reads, where the place of the act's answers is how much its node has applied
@@ -241,14 +243,14 @@ module _ (g : Given) (lead_on : LeadOn log_entries g.first) where
         let k = up_chosen (next run i a) i t.node.raft t.node.raft.applied member u (up_done (next run i a) i t.node.raft u) in
         let left : AllRead (book t ++ due) (not_due g.first t.node t.node.pending_reads) = read_left g.first (book t ++ due) t.node t.node.pending_reads (read_more (book t) due t.node.pending_reads d.serves.pending_reads) in
         let waits = wait_more (book t) due t.node.raft.log t.node.raft.log t.node.raft.term t.node.waiting (begins_same t.node.raft.log) d.serves.waits in
-        let right : AllRight one_log (book t ++ due) due =
+        let right : AllRight g.first one_log (book t ++ due) due =
         due_right g.first one_log (book t ++ due) (place_of g.first n a) t.node t.node.pending_reads (omega (arith, place, k.1))
-        (d.serves.database ∙ ap replica (sym k.0) ∙ ap (λ (j : ℕ). replica (take j one_log)) (sym place))
+        (d.serves.replica ∙ ap (replica_of g.first) (sym k.0) ∙ ap (λ (j : ℕ). replica_of g.first (take j one_log)) (sym place))
         (read_more (book t) due t.node.pending_reads d.serves.pending_reads) in
-        let noted : AllRight one_log (book t ++ due) (more t ++ due) = all_both one_log (book t ++ due) (more t) due (all_more one_log one_log (book t) due (more t) (begins_same one_log) d.noted) right in
+        let noted : AllRight g.first one_log (book t ++ due) (more t ++ due) = all_both g.first one_log (book t ++ due) (more t) due (all_more g.first one_log one_log (book t) due (more t) (begins_same one_log) d.noted) right in
         record {
-          serves = subst (λ (b : List Note). Serves b (reads g.first t).node) (sym book_is) (record { database = d.serves.database; waits = waits; pending_reads = left; queue = held_more (book t) due t.node.queue d.serves.queue; order = d.serves.order; idle = λ no. let p = d.serves.idle no in (p.0, ap (not_due g.first t.node) p.1) });
-          noted = subst (λ (b : List Note). AllRight one_log b (more (reads g.first t))) (sym book_is) (subst (AllRight one_log (book t ++ due)) (sym more_is) noted);
+          serves = subst (λ (b : List Note). Serves g.first b (reads g.first t).node) (sym book_is) (record { replica = d.serves.replica; waits = waits; pending_reads = left; queue = held_more (book t) due t.node.queue d.serves.queue; order = d.serves.order; idle = λ no. let p = d.serves.idle no in (p.0, ap (not_due g.first t.node) p.1) });
+          noted = subst (λ (b : List Note). AllRight g.first one_log b (more (reads g.first t))) (sym book_is) (subst (AllRight g.first one_log (book t ++ due)) (sym more_is) noted);
         }
       where
         one_log : List LogEntry
@@ -265,7 +267,7 @@ module _ (g : Given) (lead_on : LeadOn log_entries g.first) where
 
   -- ---- asks
 
-  module _ (run : Events) (i : NodeId) (n : Node) (number timeout : ℕ) (member : one_of (members g.first) i ≡ true) (up : (world g.first run).nodes i ≡ Running n) (s : Serves (world g.first run).book n) (new : op_of (world g.first run).book number ≡ None) where
+  module _ (run : Events) (i : NodeId) (n : Node) (number timeout : ℕ) (member : one_of (members g.first) i ≡ true) (up : (world g.first run).nodes i ≡ Running n) (s : Serves g.first (world g.first run).book n) (new : op_of (world g.first run).book number ≡ None) where
     abbrev moment : ℕ
     moment = (world g.first run).moment
 
@@ -279,29 +281,29 @@ module _ (g : Given) (lead_on : LeadOn log_entries g.first) where
     asked_is op t = number_is (world g.first run).book number i op (at_place g.first n.raft.applied t.answers) new
 
     -- the node stays, and says this at once
-    says_this : (op : Op) (say : Say) → ((u : IsUp (next run i (Ask number timeout op)) i n.raft) → IsRight (chosen g.first (next run i (Ask number timeout op))) (Some op) say n.raft.applied) → AskDoes op (says n number say)
+    says_this : (op : Op) (say : Say) → ((u : IsUp (next run i (Ask number timeout op)) i n.raft) → IsRight g.first (chosen g.first (next run i (Ask number timeout op))) (Some op) say n.raft.applied) → AskDoes op (says n number say)
     says_this op say right u = record {
       serves = idles run i n (Ask number timeout op) member up s (says n number say) refl;
-      noted = (tt, (subst (λ (o : Option Op). IsRight (chosen g.first (next run i (Ask number timeout op))) o say n.raft.applied) (sym (asked_is op (says n number say))) (right u), tt));
+      noted = (tt, (subst (λ (o : Option Op). IsRight g.first (chosen g.first (next run i (Ask number timeout op))) o say n.raft.applied) (sym (asked_is op (says n number say))) (right u), tt));
     }
 
     if_led : (op : Op) (t : Turn) → (n.raft.role ≡ Leader → AskDoes op t) → AskDoes op (if_leads g.first n number t)
-    if_led op t f = if_case (AskDoes op) (is_leader n.raft.role) t (says n number (NoLeader n.raft.term)) (λ q. f (leads_yes n.raft.role q)) (λ _. says_this op (NoLeader n.raft.term) (λ _. tt))
+    if_led op t f = if_case (AskDoes op) (is_leader n.raft.role) t (says n number (Refused (NoLeader n.raft.term))) (λ q. f (leads_yes n.raft.role q)) (λ _. says_this op (Refused (NoLeader n.raft.term)) (λ _. tt))
 
-    -- the node's own database
-    query_does : (op : Op) (items : List Item) → ((chosen : List LogEntry) (results : List Res) → IsValue chosen n.raft.applied items results → IsResults chosen op n.raft.applied results) → AskDoes op (query g.first n number items)
-    query_does op items right = says_this op (Results (answers n.database items)) (λ u.
+    -- the node's own replica
+    query_does : (op : Op) (items : List Item) → ((chosen : List LogEntry) (results : List Res) → IsValue g.first chosen n.raft.applied items results → IsResults g.first chosen op n.raft.applied results) → AskDoes op (query g.first n number items)
+    query_does op items right = says_this op (Results (answer n.replica items)) (λ u.
         let r = next run i (Ask number timeout op) in
         let k = up_chosen r i n.raft n.raft.applied member u (up_done r i n.raft u) in
-        right (chosen g.first r) (answers n.database items) (k.1, ap (λ (d : Database). answers d items) (s.database ∙ ap replica (sym k.0))))
+        right (chosen g.first r) (answer n.replica items) (k.1, ap (λ (d : State). answer d items) (s.replica ∙ ap (replica_of g.first) (sym k.0))))
 
-    taken_does : (op : Op) (e : LogEntry) → entry_of op ≡ Some e.content → e.term ≡ n.raft.term → n.raft.role ≡ Leader → AskDoes op (appended_for g.first n number moment timeout e)
+    taken_does : (op : Op) (e : LogEntry) → entry_of op ≡ Some e.command → e.term ≡ n.raft.term → n.raft.role ≡ Leader → AskDoes op (appended_for g.first n number moment timeout e)
     taken_does op e is_entry term leads u =
         let t = appended_for g.first n number moment timeout e in
         let p = lead_on.proposes n.raft e leads in
         record {
           serves = record {
-            database = same_database run i n (Ask number timeout op) member up s t u p.0;
+            replica = same_replica run i n (Ask number timeout op) member up s t u p.0;
             waits = subst (λ (l : List LogEntry). AllWait (ask_book op t) l t.node.raft.term t.node.waiting) (sym p.3) (subst (λ (u : ℕ). AllWait (ask_book op t) (n.raft.log ++ e ∷ []) u t.node.waiting) (sym p.2) (both t));
             pending_reads = still_reads run i n (Ask number timeout op) member up s t;
             queue = still_held run i n (Ask number timeout op) member up s t;
@@ -329,10 +331,10 @@ module _ (g : Given) (lead_on : LeadOn log_entries g.first) where
               tt,
             )
 
-    proposed_does : (op : Op) (content : Content) (size : ℕ) → entry_of op ≡ Some content → n.raft.role ≡ Leader → AskDoes op (proposed g.first n number moment timeout content size)
-    proposed_does op content size is_entry leads = if_case (AskDoes op) (nat_lt max_command_bytes size) (says n number (EntryTooLarge size)) (appended_for g.first n number moment timeout (record { term = n.raft.term; content = content }))
-        (λ _. says_this op (EntryTooLarge size) (λ _. tt))
-        (λ _. taken_does op (record { term = n.raft.term; content = content }) is_entry refl leads)
+    proposed_does : (op : Op) (command : Command) (size : ℕ) → entry_of op ≡ Some command → n.raft.role ≡ Leader → AskDoes op (proposed g.first n number moment timeout command size)
+    proposed_does op command size is_entry leads = if_case (AskDoes op) (nat_lt max_command_bytes size) (says n number (Refused (EntryTooLarge size))) (appended_for g.first n number moment timeout (record { term = n.raft.term; command = command }))
+        (λ _. says_this op (Refused (EntryTooLarge size)) (λ _. tt))
+        (λ _. taken_does op (record { term = n.raft.term; command = command }) is_entry refl leads)
 
     -- a pass is begun
     begun_does : (items : List Item) (limit : Option ℕ) → n.raft.role ≡ Leader → AskDoes (Read items level.Linearizable limit) (begun g.first n number moment timeout items (begin g.first n.raft))
@@ -343,7 +345,7 @@ module _ (g : Given) (lead_on : LeadOn log_entries g.first) where
         let on = lead_on.beats n.raft in
         record {
           serves = record {
-            database = same_database run i n (Ask number timeout op) member up s t u on.0;
+            replica = same_replica run i n (Ask number timeout op) member up s t u on.0;
             waits = waits_on run i n (Ask number timeout op) member up s t r on leads (leads_still leads);
             pending_reads = read_both (ask_book op t) n.pending_reads (record { pass = pass_of n.raft number; items = items; asked = moment; timeout = timeout } ∷ []) (still_reads run i n (Ask number timeout op) member up s t) (record { limit = limit; asked = asked_is op t }, tt);
             queue = still_held run i n (Ask number timeout op) member up s t;
@@ -359,29 +361,29 @@ module _ (g : Given) (lead_on : LeadOn log_entries g.first) where
     read_does : (items : List Item) (l : Level) (limit : Option ℕ) → AskDoes (Read items l limit) (read g.first n number moment timeout items l limit)
     read_does items level.None limit =
         let op = Read items level.None limit in
-        if_case (AskDoes op) (is_stale n.raft limit moment) (says n number (Stale n.raft.contact moment (limit_of limit))) (query g.first n number items)
-        (λ _. says_this op (Stale n.raft.contact moment (limit_of limit)) (λ _. tt)) (λ _. query_does op items (λ c rs v. v))
+        if_case (AskDoes op) (is_stale n.raft limit moment) (says n number (Refused (Stale n.raft.contact moment (limit_of limit)))) (query g.first n number items)
+        (λ _. says_this op (Refused (Stale n.raft.contact moment (limit_of limit))) (λ _. tt)) (λ _. query_does op items (λ c rs v. v))
     read_does items level.Weak limit = if_led (Read items level.Weak limit) (query g.first n number items) (λ _. query_does (Read items level.Weak limit) items (λ c rs v. v))
     read_does items level.Linearizable limit =
         let op = Read items level.Linearizable limit in
         let t = begun g.first n number moment timeout items (begin g.first n.raft) in
         if_led op (reads g.first t) (λ leads. reads_do run i n (Ask number timeout op) member up s t (sym (lead_on.beats n.raft).0) (begun_does items limit leads))
-    read_does items level.Strong limit = if_led (Read items level.Strong limit) (proposed g.first n number moment timeout (StrongQuery items) (length (strong_query_bytes items))) (proposed_does (Read items level.Strong limit) (StrongQuery items) (length (strong_query_bytes items)) refl)
+    read_does items level.Strong limit = if_led (Read items level.Strong limit) (proposed g.first n number moment timeout (StrongQuery items) (length (command_bytes (StrongQuery items)))) (proposed_does (Read items level.Strong limit) (StrongQuery items) (length (command_bytes (StrongQuery items))) refl)
 
-    execute_does : (items : List Item) → AskDoes (Write items) (execute g.first n number moment timeout items)
-    execute_does items = if_led (Write items) (proposed g.first n number moment timeout (Execute items) (length (execute_bytes items))) (proposed_does (Write items) (Execute items) (length (execute_bytes items)) refl)
+    write_does : (list : Statements) (mixed : Bool) → AskDoes (Write list mixed) (write g.first n number moment timeout list mixed)
+    write_does list mixed = if_led (Write list mixed) (proposed g.first n number moment timeout (write_command list mixed) (length (command_bytes (write_command list mixed)))) (proposed_does (Write list mixed) (write_command list mixed) (length (command_bytes (write_command list mixed))) refl)
 
     -- the queue gets one more, which is answered at once where it doesn't wait
-    put_does : (items : List Item) (waits : Bool) → AskDoes (Queue items waits) (enqueued g.first n number moment timeout items waits)
-    put_does items waits u =
-        let op = Queue items waits in
-        let t = enqueued g.first n number moment timeout items waits in
+    put_does : (list : Statements) (waits : Bool) → AskDoes (Queue list waits) (enqueued g.first n number moment timeout list waits)
+    put_does list waits u =
+        let op = Queue list waits in
+        let t = enqueued g.first n number moment timeout list waits in
         record {
           serves = record {
-            database = s.database;
+            replica = s.replica;
             waits = still_waits run i n (Ask number timeout op) member up s t;
             pending_reads = still_reads run i n (Ask number timeout op) member up s t;
-            queue = held_both (ask_book op t) n.queue (record { sequence = n.last + 1; number = number; items = items; waits = waits; asked = moment; timeout = timeout } ∷ []) (still_held run i n (Ask number timeout op) member up s t)
+            queue = held_both (ask_book op t) n.queue (record { sequence = n.last + 1; number = number; list = list; waits = waits; asked = moment; timeout = timeout } ∷ []) (still_held run i n (Ask number timeout op) member up s t)
                 (record { wait = waits; asked = asked_is op t; waited = λ e. e }, tt);
             order = s.order;
             idle = s.idle;
@@ -389,27 +391,27 @@ module _ (g : Given) (lead_on : LeadOn log_entries g.first) where
           noted = (tt, noted waits);
         }
       where
-        noted : (b : Bool) → AllRight (chosen g.first (next run i (Ask number timeout (Queue items b)))) (ask_book (Queue items b) (enqueued g.first n number moment timeout items b)) (at_place g.first n.raft.applied (immediate_answer g.first b number (n.last + 1)))
+        noted : (b : Bool) → AllRight g.first (chosen g.first (next run i (Ask number timeout (Queue list b)))) (ask_book (Queue list b) (enqueued g.first n number moment timeout list b)) (at_place g.first n.raft.applied (immediate_answer g.first b number (n.last + 1)))
         noted true = tt
         noted false = (
-          subst (λ (o : Option Op). IsRight (chosen g.first (next run i (Ask number timeout (Queue items false)))) o (Queued (n.last + 1)) n.raft.applied) (sym (asked_is (Queue items false) (enqueued g.first n number moment timeout items false))) tt,
+          subst (λ (o : Option Op). IsRight g.first (chosen g.first (next run i (Ask number timeout (Queue list false)))) o (Queued (n.last + 1)) n.raft.applied) (sym (asked_is (Queue list false) (enqueued g.first n number moment timeout list false))) tt,
           tt,
         )
 
-    queued_does : (items : List Item) (waits : Bool) → AskDoes (Queue items waits) (enqueue g.first n number moment timeout items waits)
-    queued_does items waits =
-        let op = Queue items waits in
-        let size = length (execute_bytes items) in
+    queued_does : (list : Statements) (waits : Bool) → AskDoes (Queue list waits) (enqueue g.first n number moment timeout list waits)
+    queued_does list waits =
+        let op = Queue list waits in
+        let size = length (command_bytes (Execute list)) in
         let held = length n.queue in
-        let t = enqueued g.first n number moment timeout items waits in
+        let t = enqueued g.first n number moment timeout list waits in
         if_led op (if_not_too_large g.first n number size (if_not_full g.first n number t)) (λ _.
-        if_case (AskDoes op) (nat_lt max_queued_bytes size) (says n number (QueuedTooLarge size)) (if_not_full g.first n number t)
-        (λ _. says_this op (QueuedTooLarge size) (λ _. tt))
-        (λ _. if_case (AskDoes op) (nat_le queue_capacity held) (says n number (Full held)) t (λ _. says_this op (Full held) (λ _. tt)) (λ _. put_does items waits)))
+        if_case (AskDoes op) (nat_lt max_queued_bytes size) (says n number (Refused (QueuedTooLarge size))) (if_not_full g.first n number t)
+        (λ _. says_this op (Refused (QueuedTooLarge size)) (λ _. tt))
+        (λ _. if_case (AskDoes op) (nat_le queue_capacity held) (says n number (Refused (QueueFull held))) t (λ _. says_this op (Refused (QueueFull held)) (λ _. tt)) (λ _. put_does list waits)))
 
   -- ---- flush
 
-  module _ (run : Events) (i : NodeId) (n : Node) (member : one_of (members g.first) i ≡ true) (up : (world g.first run).nodes i ≡ Running n) (s : Serves (world g.first run).book n) where
+  module _ (run : Events) (i : NodeId) (n : Node) (member : one_of (members g.first) i ≡ true) (up : (world g.first run).nodes i ≡ Running n) (s : Serves g.first (world g.first run).book n) where
     abbrev FlushDoes : Turn → Type 0
     FlushDoes t = IsUp (next run i Flush) i t.node.raft → Did run i n Flush member up s t
 
@@ -420,7 +422,7 @@ module _ (g : Given) (lead_on : LeadOn log_entries g.first) where
         let p = lead_on.proposes n.raft e leads in
         record {
           serves = record {
-            database = same_database run i n Flush member up s t u p.0;
+            replica = same_replica run i n Flush member up s t u p.0;
             waits = subst (λ (l : List LogEntry). AllWait (book run i n Flush member up s t) l t.node.raft.term t.node.waiting) (sym p.3) (subst (λ (u : ℕ). AllWait (book run i n Flush member up s t) (n.raft.log ++ e ∷ []) u t.node.waiting) (sym p.2) (both t e refl));
             pending_reads = still_reads run i n Flush member up s t;
             queue = held_drop (book run i n Flush member up s t) max_batch n.queue (still_held run i n Flush member up s t);
@@ -436,7 +438,7 @@ module _ (g : Given) (lead_on : LeadOn log_entries g.first) where
         both : (t : Turn) (e : LogEntry) → batch_entry g.first n ≡ e → AllWait (book run i n Flush member up s t) (n.raft.log ++ e ∷ []) n.raft.term (n.waiting ++ batch_waits g.first (length n.raft.log + 1) 0 (batch g.first n))
         both t e is = wait_both (book run i n Flush member up s t) (n.raft.log ++ e ∷ []) n.raft.term n.waiting (batch_waits g.first (length n.raft.log + 1) 0 (batch g.first n))
             (wait_more (world g.first run).book (more run i n Flush member up s t) n.raft.log (n.raft.log ++ e ∷ []) n.raft.term n.waiting (begins_more n.raft.log (e ∷ [])) s.waits)
-            (batch_wait g.first (book run i n Flush member up s t) (n.raft.log ++ e ∷ []) n.raft.term (length n.raft.log + 1) (omega arith) e (index_is n.raft.log e) (lists_of (batch g.first n)) (sym (ap (λ (x : LogEntry). x.content) is)) (sym (ap (λ (x : LogEntry). x.term) is))
+            (batch_wait g.first (book run i n Flush member up s t) (n.raft.log ++ e ∷ []) n.raft.term (length n.raft.log + 1) (omega arith) e (index_is n.raft.log e) (lists_of (batch g.first n)) (sym (ap (λ (x : LogEntry). x.command) is)) (sym (ap (λ (x : LogEntry). x.term) is))
             0 (batch g.first n) (λ k. let none : 0 + k ≡ k = omega arith in ap (slice_get (lists_of (batch g.first n))) none) (held_take (book run i n Flush member up s t) max_batch n.queue (still_held run i n Flush member up s t)))
 
     flush_does : FlushDoes (flush g.first n)
@@ -446,30 +448,30 @@ module _ (g : Given) (lead_on : LeadOn log_entries g.first) where
 
   -- ---- apply
 
-  module _ (run : Events) (i : NodeId) (n : Node) (member : one_of (members g.first) i ≡ true) (up : (world g.first run).nodes i ≡ Running n) (s : Serves (world g.first run).book n) where
+  module _ (run : Events) (i : NodeId) (n : Node) (member : one_of (members g.first) i ≡ true) (up : (world g.first run).nodes i ≡ Running n) (s : Serves g.first (world g.first run).book n) where
     abbrev ApplyDoes : Turn → Type 0
     ApplyDoes t = IsUp (next run i Apply) i t.node.raft → Did run i n Apply member up s t
 
-    one_more : (entry : LogEntry) → n.raft.applied < n.raft.commit → slice_get n.raft.log n.raft.applied ≡ Some entry → ApplyDoes (applied_content n entry.content)
+    one_more : (entry : LogEntry) → n.raft.applied < n.raft.commit → slice_get n.raft.log n.raft.applied ≡ Some entry → ApplyDoes (applied_command n entry.command)
     one_more entry lt is u =
         let r = next run i Apply in
-        let t = applied_content n entry.content in
+        let t = applied_command n entry.command in
         let k = up_chosen r i t.node.raft (n.raft.applied + 1) member u (omega (arith, lt)) in
         record {
           serves = record {
-            database = sym (folds g.first (chosen g.first r) n.raft.log n.raft.applied n.database s.database k.0 entry is);
+            replica = sym (folds g.first (chosen g.first r) n.raft.log n.raft.applied n.replica s.replica k.0 entry is);
             waits = wait_left (book run i n Apply member up s t) n.raft.log n.raft.term (n.raft.applied + 1) n.waiting (still_waits run i n Apply member up s t);
             pending_reads = still_reads run i n Apply member up s t;
             queue = still_held run i n Apply member up s t;
             order = ascends_left (n.raft.applied + 1) n.waiting s.order;
             idle = λ no. let p = s.idle no in (ap (still_waiting (n.raft.applied + 1)) p.0, p.1);
           };
-          noted = answers_right g.first (chosen g.first r) n.raft.log n.raft.applied n.database s.database k.0 entry is (book run i n Apply member up s t) n.raft.term n.waiting (still_waits run i n Apply member up s t);
+          noted = answers_right g.first (chosen g.first r) n.raft.log n.raft.applied n.replica s.replica k.0 entry is (book run i n Apply member up s t) n.raft.term n.waiting (still_waits run i n Apply member up s t);
         }
 
     by_entry : n.raft.applied < n.raft.commit → (o : Option LogEntry) → slice_get n.raft.log n.raft.applied ≡ o → ApplyDoes (applied_entry g.first n o)
     by_entry lt None is = quiet_does run i n Apply member up s refl
-    by_entry lt (Some entry) is = reads_do run i n Apply member up s (applied_content n entry.content) refl (one_more entry lt is)
+    by_entry lt (Some entry) is = reads_do run i n Apply member up s (applied_command n entry.command) refl (one_more entry lt is)
 
     apply_does : ApplyDoes (apply g.first n)
     apply_does = if_case ApplyDoes (nat_lt n.raft.applied n.raft.commit) (applied_entry g.first n (slice_get n.raft.log n.raft.applied)) (unchanged n)
@@ -482,7 +484,7 @@ module _ (g : Given) (lead_on : LeadOn log_entries g.first) where
   compact_on n = if_case (LeadsOn log_entries g.first n) (nat_lt n.base n.applied) (record { node = record n { base = n.applied }; stored = Rattle.rq_raft.specs.Node.Replace n.applied n.log ∷ []; packets = [] }) (raft_quiet n)
       (λ _. (refl, λ a b. (refl, refl))) (λ _. (refl, λ a b. (refl, refl)))
 
-  module _ (run : Events) (i : NodeId) (n : Node) (member : one_of (members g.first) i ≡ true) (up : (world g.first run).nodes i ≡ Running n) (s : Serves (world g.first run).book n) where
+  module _ (run : Events) (i : NodeId) (n : Node) (member : one_of (members g.first) i ≡ true) (up : (world g.first run).nodes i ≡ Running n) (s : Serves g.first (world g.first run).book n) where
     -- a packet that applies nothing
     module _ (k : ℕ) (p : Packet LogEntry) (r : RaftTurn LogEntry) (on : LeadsOn log_entries g.first n.raft r) where
       abbrev DeliverDoes : Turn → Type 0
@@ -499,7 +501,7 @@ module _ (g : Given) (lead_on : LeadOn log_entries g.first) where
       with_do (VoteSay granted) = does_same
       with_do (Append prev prev_term commit probe es) = does_same
       with_do (AppendSay ok at probe) = if_case DeliverDoes (counts g.first n p at) (reads g.first (raft_turn n r)) (raft_turn n r) (λ _. reads_do run i n (Deliver k) member up s (raft_turn n r) applied_same does_same) (λ _. does_same)
-      with_do (Install probe list) = if_case DeliverDoes (nat_lt n.raft.applied (raft_turn n r).node.raft.applied) (record (raft_turn n r) { node = record (raft_turn n r).node { database = replica list } }) (raft_turn n r)
+      with_do (Install probe list) = if_case DeliverDoes (nat_lt n.raft.applied (raft_turn n r).node.raft.applied) (record (raft_turn n r) { node = record (raft_turn n r).node { replica = replica_of g.first list } }) (raft_turn n r)
           (λ e. absurd (omega (arith, applied_same, lt_true n.raft.applied (raft_turn n r).node.raft.applied e))) (λ _. does_same)
       with_do (InstallSay at probe) = if_case DeliverDoes (counts g.first n p at) (reads g.first (raft_turn n r)) (raft_turn n r) (λ _. reads_do run i n (Deliver k) member up s (raft_turn n r) applied_same does_same) (λ _. does_same)
 
@@ -509,17 +511,17 @@ module _ (g : Given) (lead_on : LeadOn log_entries g.first) where
       RestoredDoes t = Performs run i n (Deliver k) member up s (restored g.first n list t)
 
       abbrev whole : Turn → Turn
-      whole t = record t { node = record t.node { database = replica list } }
+      whole t = record t { node = record t.node { replica = replica_of g.first list } }
 
-      database_is : replica list ≡ replica (take r.node.applied r.node.log)
-      database_is = ap replica (sym inst.2) ∙ ap (λ (j : ℕ). replica (take j r.node.log)) (sym inst.1)
+      replica_is : replica_of g.first list ≡ replica_of g.first (take r.node.applied r.node.log)
+      replica_is = ap (replica_of g.first) (sym inst.2) ∙ ap (λ (j : ℕ). replica_of g.first (take j r.node.log)) (sym inst.1)
 
       rises : n.raft.applied < r.node.applied
       rises = omega (arith, inst.0, inst.1, done g run i n up)
 
       down_does : Performs run i n (Deliver k) member up s (whole (steps_down n r))
       down_does u = record {
-        serves = record { database = database_is; waits = tt; pending_reads = tt; queue = still_held run i n (Deliver k) member up s (whole (steps_down n r)); order = tt; idle = λ q. (refl, refl) };
+        serves = record { replica = replica_is; waits = tt; pending_reads = tt; queue = still_held run i n (Deliver k) member up s (whole (steps_down n r)); order = tt; idle = λ q. (refl, refl) };
         noted = lost_right g.first (chosen g.first (next run i (Deliver k))) (book run i n (Deliver k) member up s (steps_down n r)) n.raft.log n.raft.term (place_of g.first n (Deliver k)) n.raft.term r.node.term n
             (still_waits run i n (Deliver k) member up s (steps_down n r)) (still_reads run i n (Deliver k) member up s (steps_down n r));
       }
@@ -529,7 +531,7 @@ module _ (g : Given) (lead_on : LeadOn log_entries g.first) where
           let none = s.idle (leads_not n.raft.role (no_lead (is_leader n.raft.role) (is_leader r.node.role) (ap is_leader inst.3) e)) in
           record {
             serves = record {
-              database = database_is;
+              replica = replica_is;
               waits = subst (AllWait (book run i n (Deliver k) member up s (whole (stays_on n r))) r.node.log r.node.term) (sym none.0) tt;
               pending_reads = still_reads run i n (Deliver k) member up s (whole (stays_on n r));
               queue = still_held run i n (Deliver k) member up s (whole (stays_on n r));
@@ -574,8 +576,8 @@ module _ (g : Given) (lead_on : LeadOn log_entries g.first) where
     act_up a = record { node = (turn g.first (world g.first run) n a).node; up = next_up run i n a up; raft = refl }
 
     act_does : (a : Act) → IsNew (world g.first run).book (number_of a) → Did run i n a member up s (turn g.first (world g.first run) n a)
-    act_does (Ask number timeout (Write items)) new = execute_does run i n number timeout member up s new items (act_up (Ask number timeout (Write items)))
-    act_does (Ask number timeout (Queue items wait)) new = queued_does run i n number timeout member up s new items wait (act_up (Ask number timeout (Queue items wait)))
+    act_does (Ask number timeout (Write list mixed)) new = write_does run i n number timeout member up s new list mixed (act_up (Ask number timeout (Write list mixed)))
+    act_does (Ask number timeout (Queue list wait)) new = queued_does run i n number timeout member up s new list wait (act_up (Ask number timeout (Queue list wait)))
     act_does (Ask number timeout (Read items level limit)) new = read_does run i n number timeout member up s new items level limit (act_up (Ask number timeout (Read items level limit)))
     act_does Elect new = turned_does run i n Elect member up s (vote.elect log_entries g.first n.raft) refl (lead_on.elects n.raft) (act_up Elect)
     act_does Beat new = turned_does run i n Beat member up s (lead.beat log_entries g.first n.raft) refl (lead_on.beats n.raft) (act_up Beat)
@@ -588,7 +590,7 @@ module _ (g : Given) (lead_on : LeadOn log_entries g.first) where
 
   -- ---- each moment
 
-  notes_right : (chosen : List LogEntry) (book : List Note) (i : NodeId) (a : Act) → AllRight chosen book (note_of g.first i a)
+  notes_right : (chosen : List LogEntry) (book : List Note) (i : NodeId) (a : Act) → AllRight g.first chosen book (note_of g.first i a)
   notes_right chosen book i (Ask number timeout op) = (tt, tt)
   notes_right chosen book i Elect = tt
   notes_right chosen book i Beat = tt
@@ -599,13 +601,13 @@ module _ (g : Given) (lead_on : LeadOn log_entries g.first) where
   notes_right chosen book i Tick = tt
   notes_right chosen book i Idle = tt
 
-  serves_on : (book more : List Note) (n : Node) → Serves book n → Serves (book ++ more) n
-  serves_on book more n s = record { database = s.database; waits = wait_more book more n.raft.log n.raft.log n.raft.term n.waiting (begins_same n.raft.log) s.waits; pending_reads = read_more book more n.pending_reads s.pending_reads; queue = held_more book more n.queue s.queue; order = s.order; idle = s.idle }
+  serves_on : (book more : List Note) (n : Node) → Serves g.first book n → Serves g.first (book ++ more) n
+  serves_on book more n s = record { replica = s.replica; waits = wait_more book more n.raft.log n.raft.log n.raft.term n.waiting (begins_same n.raft.log) s.waits; pending_reads = read_more book more n.pending_reads s.pending_reads; queue = held_more book more n.queue s.queue; order = s.order; idle = s.idle }
 
   -- the places of the next world, and what is noted more
   goes_on : (run : Events) (e : Event) (more : List Note) (next : World) → world g.first (Then run e) ≡ next → Sound run → next.book ≡ (world g.first run).book ++ more
-      → AllRight (chosen g.first (Then run e)) ((world g.first run).book ++ more) more
-      → ((j : NodeId) (m : Node) → next.nodes j ≡ Running m → (one_of (members g.first) j ≡ true) × Serves ((world g.first run).book ++ more) m) → Sound (Then run e)
+      → AllRight g.first (chosen g.first (Then run e)) ((world g.first run).book ++ more) more
+      → ((j : NodeId) (m : Node) → next.nodes j ≡ Running m → (one_of (members g.first) j ≡ true) × Serves g.first ((world g.first run).book ++ more) m) → Sound (Then run e)
   goes_on run e more next is s book noted nodes =
       let old = (world g.first run).book in
       let c = chosen g.first run in
@@ -613,12 +615,12 @@ module _ (g : Given) (lead_on : LeadOn log_entries g.first) where
       let book_is : (world g.first (Then run e)).book ≡ old ++ more = ap (λ (x : World). x.book) is ∙ book in
       record {
         members_only = λ j m up. (nodes j m (sym (ap (λ (x : World). x.nodes j) is) ∙ up)).0;
-        serve = λ j m up. subst (λ (b : List Note). Serves b m) (sym book_is) (nodes j m (sym (ap (λ (x : World). x.nodes j) is) ∙ up)).1;
-        right = subst (λ (b : List Note). AllRight d b b) (sym book_is) (all_both d (old ++ more) old more (all_more c d old more old (prefix_begins c d (grows g run e)) s.right) noted);
+        serve = λ j m up. subst (λ (b : List Note). Serves g.first b m) (sym book_is) (nodes j m (sym (ap (λ (x : World). x.nodes j) is) ∙ up)).1;
+        right = subst (λ (b : List Note). AllRight g.first d b b) (sym book_is) (all_both g.first d (old ++ more) old more (all_more g.first c d old more old (prefix_begins c d (grows g run e)) s.right) noted);
       }
 
   -- each node that runs ran before
-  stays_at : (run : Events) (more : List Note) → Sound run → (j : NodeId) (m : Node) → (world g.first run).nodes j ≡ Running m → (one_of (members g.first) j ≡ true) × Serves ((world g.first run).book ++ more) m
+  stays_at : (run : Events) (more : List Note) → Sound run → (j : NodeId) (m : Node) → (world g.first run).nodes j ≡ Running m → (one_of (members g.first) j ≡ true) × Serves g.first ((world g.first run).book ++ more) m
   stays_at run more s j m up = (s.members_only j m up, serves_on (world g.first run).book more m (s.serve j m up))
 
   same_world : (run : Events) (e : Event) (next : World) → world g.first (Then run e) ≡ next → next.nodes ≡ (world g.first run).nodes → next.book ≡ (world g.first run).book → Sound run → Sound (Then run e)
@@ -657,7 +659,7 @@ module _ (g : Given) (lead_on : LeadOn log_entries g.first) where
       let m = more run i n a member up serves t in
       goes_on run (At i a) m (acted g.first w i n a t) (next_is run i n a up) s refl d.noted
       (λ j x at. ⊎_elim
-      (λ (p : (j ≡ i) × (Running t.node ≡ Running x)). (subst (λ (k : NodeId). one_of (members g.first) k ≡ true) (sym p.0) member, subst (Serves (w.book ++ m)) (node_of t.node x p.1) d.serves))
+      (λ (p : (j ≡ i) × (Running t.node ≡ Running x)). (subst (λ (k : NodeId). one_of (members g.first) k ≡ true) (sym p.0) member, subst (Serves g.first (w.book ++ m)) (node_of t.node x p.1) d.serves))
       (λ (p : w.nodes j ≡ Running x). stays_at run m s j x p)
       (place_at w.nodes i j (Running t.node) x at))
 
@@ -671,15 +673,15 @@ module _ (g : Given) (lead_on : LeadOn log_entries g.first) where
       (place_at (world g.first run).nodes i j (Down kept rest) x (sym (ap (λ (p : NodeId → NodeState). p j) nodes) ∙ at)))
 
   -- a member starts
-  started_serves : (book : List Note) (i : NodeId) (kept : Persistent LogEntry) → Serves book (started i kept).node
-  started_serves book i kept = record { database = refl; waits = tt; pending_reads = tt; queue = tt; order = tt; idle = λ no. (refl, refl) }
+  started_serves : (book : List Note) (i : NodeId) (kept : Persistent LogEntry) → Serves g.first book (started g.first i kept).node
+  started_serves book i kept = record { replica = refl; waits = tt; pending_reads = tt; queue = tt; order = tt; idle = λ no. (refl, refl) }
 
-  started_world : (run : Events) (i : NodeId) (k : ℕ) (kept : Persistent LogEntry) (next : World) → one_of (members g.first) i ≡ true → world g.first (Then run (Start i k)) ≡ next → next.nodes ≡ set_node g.first (world g.first run).nodes i (Running (started i kept).node) → next.book ≡ (world g.first run).book → Sound run → Sound (Then run (Start i k))
+  started_world : (run : Events) (i : NodeId) (k : ℕ) (kept : Persistent LogEntry) (next : World) → one_of (members g.first) i ≡ true → world g.first (Then run (Start i k)) ≡ next → next.nodes ≡ set_node g.first (world g.first run).nodes i (Running (started g.first i kept).node) → next.book ≡ (world g.first run).book → Sound run → Sound (Then run (Start i k))
   started_world run i k kept next member is nodes book s = goes_on run (Start i k) [] next is s (book ∙ sym (append-nil (world g.first run).book)) tt
       (λ j x at. ⊎_elim
-      (λ (p : (j ≡ i) × (Running (started i kept).node ≡ Running x)). (subst (λ (k : NodeId). one_of (members g.first) k ≡ true) (sym p.0) member, subst (Serves ((world g.first run).book ++ [])) (node_of (started i kept).node x p.1) (started_serves ((world g.first run).book ++ []) i kept)))
+      (λ (p : (j ≡ i) × (Running (started g.first i kept).node ≡ Running x)). (subst (λ (k : NodeId). one_of (members g.first) k ≡ true) (sym p.0) member, subst (Serves g.first ((world g.first run).book ++ [])) (node_of (started g.first i kept).node x p.1) (started_serves ((world g.first run).book ++ []) i kept)))
       (λ (p : (world g.first run).nodes j ≡ Running x). stays_at run [] s j x p)
-      (place_at (world g.first run).nodes i j (Running (started i kept).node) x (sym (ap (λ (p : NodeId → NodeState). p j) nodes) ∙ at)))
+      (place_at (world g.first run).nodes i j (Running (started g.first i kept).node) x (sym (ap (λ (p : NodeId → NodeState). p j) nodes) ∙ at)))
 
   step : (run : Events) (e : Event) → Sound run → IsNew (world g.first run).book (asked_in e) → Sound (Then run e)
   step run (At i a) s new = go ((world g.first run).nodes i) refl
@@ -712,7 +714,7 @@ module _ (g : Given) (lead_on : LeadOn log_entries g.first) where
       go (Running n) is = same_world run (FailStart i k) (world g.first run) (ap (fails_start g.first (world g.first run) i k) is) refl refl s
       go (Down kept rest) is =
           let full = persistent_after kept (take k rest) in
-          down_world run (FailStart i k) i full (started i full).stored Idle (fails_start g.first (world g.first run) i k (Down kept rest)) (ap (fails_start g.first (world g.first run) i k) is) refl (sym (append-nil (world g.first run).book)) s
+          down_world run (FailStart i k) i full (started g.first i full).stored Idle (fails_start g.first (world g.first run) i k (Down kept rest)) (ap (fails_start g.first (world g.first run) i k) is) refl (sym (append-nil (world g.first run).book)) s
   step run (Clock moment) s new = same_world run (Clock moment) (record (world g.first run) { moment = max (world g.first run).moment moment }) refl refl refl s
 
   pub sound : (run : Events) → IsNumbered g.first run → Sound run
@@ -732,7 +734,7 @@ module _ (g : Given) (lead_on : LeadOn log_entries g.first) where
             record {
               applied = prefix_in n.raft.log (chosen g.first run) n.raft.applied ((in_chosen run i n n.raft.applied member up d).0);
               committed = prefix_in n.raft.log (chosen g.first run) n.raft.commit ((in_chosen run i n n.raft.commit member up (omega arith)).0);
-              database = (s.serve i n up).database;
+              replica = (s.serve i n up).replica;
             };
-        right = λ k number say place at. subst (RightNote (chosen g.first run) (world g.first run).book) at (all_get (chosen g.first run) (world g.first run).book (world g.first run).book k s.right);
+        right = λ k number say place at. subst (RightNote g.first (chosen g.first run) (world g.first run).book) at (all_get g.first (chosen g.first run) (world g.first run).book (world g.first run).book k s.right);
       }

@@ -2,6 +2,7 @@
 use Rattle.std.proofs.Common.{◌≡◌, ◌⊎◌, ◌<◌, ℕ, zero, suc, ◌+◌, ◌&&◌, List, [], ◌∷◌, ◌++◌, length, take, drop, slice_get, Bool, cond, Option, Some, None, refl, sym, ◌∙◌, ap, subst, inl, inr, ⊎_elim, arith}
 use Rattle.std.specs.Prelude.{nat_lt}
 use Rattle.std.proofs.lemmas.List.{length-append}
+use Rattle.rq_statement.specs.Statements.{Statements}
 use Rattle.rq_statement.specs.declared.item.Item.{Item}
 use Rattle.rq_history.specs.History.{NodeId}
 use Rattle.rq_raft.specs.declared.role.Role.TheVariants.{Follower}
@@ -60,9 +61,9 @@ get_number (x ∷ qs) zero q e = ap number_in e
     number_in (Some y) = Some y.number
 get_number (x ∷ qs) (suc k) q e = get_number qs k q e
 
-held_get : (book : List Note) (qs : List QueuedWrite) (k number : ℕ) → AllHeld book qs → slice_get (numbers qs) k ≡ Some number → (items : List Item) × (wait : Bool) × (op_of book number ≡ Some (Queue items wait))
+held_get : (book : List Note) (qs : List QueuedWrite) (k number : ℕ) → AllHeld book qs → slice_get (numbers qs) k ≡ Some number → (list : Statements) × (wait : Bool) × (op_of book number ≡ Some (Queue list wait))
 held_get book [] k number all e = absurd (cc)
-held_get book (q ∷ qs) zero number (one, rest) e = (q.items, one.wait, subst (λ (j : ℕ). op_of book j ≡ Some (Queue q.items one.wait)) (some q.number number e) one.asked)
+held_get book (q ∷ qs) zero number (one, rest) e = (q.list, one.wait, subst (λ (j : ℕ). op_of book j ≡ Some (Queue q.list one.wait)) (some q.number number e) one.asked)
   where
     some : (x y : ℕ) → Some x ≡ Some y → x ≡ y
     some x y e = cc
@@ -117,7 +118,7 @@ module _ (g : Given) (known : Known g) (later : LaterEntriesCover (entry_view lo
   abbrev pub Stands : Events → NodeId → ℕ → ℕ → Type 0
   Stands run i k number = (n : Node) × Runs g.first run i n × (slice_get (numbers n.queue) k ≡ Some number)
 
-  pub stands_asked : (run : Events) → IsNumbered g.first run → (i : NodeId) (k number : ℕ) → Stands run i k number → (items : List Item) × (wait : Bool) × (op_of (book run) number ≡ Some (Queue items wait))
+  pub stands_asked : (run : Events) → IsNumbered g.first run → (i : NodeId) (k number : ℕ) → Stands run i k number → (list : Statements) × (wait : Bool) × (op_of (book run) number ≡ Some (Queue list wait))
   stands_asked run numbered i k number s = held_get (book run) s.0.queue k number ((sound g known.lead_on run numbered).serve i s.0 s.1).queue s.2
 
   -- what the acting node's queue comes from
@@ -129,14 +130,14 @@ module _ (g : Given) (known : Known g) (later : LaterEntriesCover (entry_view lo
     fresh : (number timeout : ℕ) (op : Op) → a.act ≡ Ask number timeout op → (i : NodeId) (k : ℕ) → Stands run i k number → Prim.⊥
     fresh number timeout op is i k s = let h = stands_asked run numbered.0 i k number s in differ h.0 h.1 (sym (new_number g known run e a numbered.1 number timeout op is) ∙ h.2)
       where
-        differ : (items : List Item) (wait : Bool) → None ≡ Some (Queue items wait) → Prim.⊥
+        differ : (list : Statements) (wait : Bool) → None ≡ Some (Queue list wait) → Prim.⊥
         differ items wait e = cc
 
     came : Came (numbers a.node.queue) (numbers tn.queue)
     came = ⊎_elim
         (λ (same : numbers tn.queue ≡ numbers a.node.queue). inl same)
         (λ (more : IsPut g a.node a.act tn.queue ⊎ IsDropped g a.node a.act tn.queue). ⊎_elim
-        (λ (p : IsPut g a.node a.act tn.queue). inr (inl (p.number, p.goes, λ k at. fresh p.number p.timeout (Queue p.items p.wait) p.act a.who k (a.node, a.runs, at))))
+        (λ (p : IsPut g a.node a.act tn.queue). inr (inl (p.number, p.goes, λ k at. fresh p.number p.timeout (Queue p.list p.wait) p.act a.who k (a.node, a.runs, at))))
         (λ (d : IsDropped g a.node a.act tn.queue). inr (inr d.goes))
         more)
         (act_gives g known.lead_on (world g.first run).sent (world g.first run).moment a.node a.act).queue
@@ -159,7 +160,7 @@ module _ (g : Given) (known : Known g) (later : LaterEntriesCover (entry_view lo
             (λ (o : slice_get (numbers a.node.queue) k ≡ Some number). inl (k, before k o is))
             (λ (n : (m : ℕ) × (k ≡ length (numbers a.node.queue) + m) × (slice_get (p.number ∷ []) m ≡ Some number)).
             let same = (get_one p.number number n.0 n.2).0 in
-            inr (is, ap (op_of (book run)) (sym same) ∙ new_number g known run e a numbered.1 p.number p.timeout (Queue p.items p.wait) p.act))
+            inr (is, ap (op_of (book run)) (sym same) ∙ new_number g known run e a numbered.1 p.number p.timeout (Queue p.list p.wait) p.act))
             (get_both (numbers a.node.queue) (p.number ∷ []) k number (subst (λ (l : List ℕ). slice_get l k ≡ Some number) p.goes at)))
             (λ (d : IsDropped g a.node a.act tn.queue). inl (max_batch + k, before (max_batch + k) (sym (get_dropped max_batch (numbers a.node.queue) k) ∙ subst (λ (l : List ℕ). slice_get l k ≡ Some number) d.goes at) is))
             more)
@@ -187,7 +188,7 @@ module _ (g : Given) (known : Known g) (later : LaterEntriesCover (entry_view lo
       never : (h : NodeId) (m : ℕ) → Stands run h m number → op_of (book run) number ≡ None → Prim.⊥
       never h m st none = let o = stands_asked run numbered.0 h m number st in differ o.0 o.1 (sym none ∙ o.2)
         where
-          differ : (items : List Item) (wait : Bool) → None ≡ Some (Queue items wait) → Prim.⊥
+          differ : (list : Statements) (wait : Bool) → None ≡ Some (Queue list wait) → Prim.⊥
           differ items wait e = cc
 
       nodes : ((m : ℕ) × Stands run i m number) ⊎ ((i ≡ a.who) × (op_of (book run) number ≡ None)) → ((m : ℕ) × Stands run j m number) ⊎ ((j ≡ a.who) × (op_of (book run) number ≡ None)) → i ≡ j

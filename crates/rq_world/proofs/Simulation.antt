@@ -161,16 +161,16 @@ module _ (g : Given) where
 
   started_goes : (choice : Choice) (h : History LogEntry) (w : World) (i : NodeId) (k : ℕ) (kept : Persistent LogEntry) (rest : List (StoredRecord LogEntry)) → w.nodes i ≡ Down kept rest → Fit (choose choice i k) w h → Goes choice h (starts_at g.first w i k (Down kept rest))
   started_goes choice h w i k kept rest is f =
-      place_goes (choose choice i k) choice h w i (Running (started i (persistent_after kept (take k rest))).node) [] (starts_at g.first w i k (Down kept rest)) (λ j no. other choice i j k (w.nodes j) no) f
+      place_goes (choose choice i k) choice h w i (Running (started g.first i (persistent_after kept (take k rest))).node) [] (starts_at g.first w i k (Down kept rest)) (λ j no. other choice i j k (w.nodes j) no) f
       (rested h i (raft_started i (persistent_after kept (take k rest))) f.lawful (opened choice h w i k kept rest is f)) tt refl (none_more w.sent)
 
   failed_start : (choice : Choice) (h : History LogEntry) (w : World) (i : NodeId) (k : ℕ) (kept : Persistent LogEntry) (rest : List (StoredRecord LogEntry)) → w.nodes i ≡ Down kept rest → Fit (choose choice i k) w h → Goes choice h (fails_start g.first w i k (Down kept rest))
   failed_start choice h w i k kept rest is f =
       let full = persistent_after kept (take k rest) in
-      place_goes (choose choice i k) choice h w i (Down full (started i full).stored) [] (fails_start g.first w i k (Down kept rest)) (λ j no. other choice i j k (w.nodes j) no) f
-      (rested h i (raft_started i (persistent_after full (take (choice i) (started i full).stored))) f.lawful (booted full (choice i) (opened choice h w i k kept rest is f))) tt refl (none_more w.sent)
+      place_goes (choose choice i k) choice h w i (Down full (started g.first i full).stored) [] (fails_start g.first w i k (Down kept rest)) (λ j no. other choice i j k (w.nodes j) no) f
+      (rested h i (raft_started i (persistent_after full (take (choice i) (started g.first i full).stored))) f.lawful (booted full (choice i) (opened choice h w i k kept rest is f))) tt refl (none_more w.sent)
     where
-      booted : (full : Persistent LogEntry) (m : ℕ) → Refines log_entries h i (raft_started i full) → Refines log_entries h i (raft_started i (persistent_after full (take m (started i full).stored)))
+      booted : (full : Persistent LogEntry) (m : ℕ) → Refines log_entries h i (raft_started i full) → Refines log_entries h i (raft_started i (persistent_after full (take m (started g.first i full).stored)))
       booted full zero fits = fits
       booted full (suc zero) fits = g.moves.starts h i full fits (full.boot + 1)
       booted full (suc (suc m)) fits = g.moves.starts h i full fits (full.boot + 1)

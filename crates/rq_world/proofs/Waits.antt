@@ -5,60 +5,51 @@ use Rattle.std.proofs.lemmas.List.{take-take}
 use Rattle.rq_wire.specs.declared.config.Member.{Member}
 use Rattle.rq_statement.specs.declared.item.Item.{Item}
 use Rattle.rq_statement.specs.declared.res.Res.{Res}
-use Rattle.rq_world.specs.declared.say.Say.TheVariants.{Results, Lost, Timeout}
-use Rattle.rq_world.specs.declared.say.Answer.{Answer}
-use Rattle.rq_engine.specs.Database.{Database}
-use Rattle.rq_engine.specs.Meaning.{answers}
+use Rattle.rq_request.specs.declared.say.Say.TheVariants.{Results, Refused}
+use Rattle.rq_request.specs.declared.say.NodeRefusal.TheVariants.{Lost, Timeout}
+use Rattle.rq_request.specs.declared.say.Answer.{Answer}
+use Rattle.rq_statement.specs.Statements.{Statements}
+use Rattle.rq_engine.specs.declared.outcome.Outcome.{Outcome}
+use Rattle.rq_engine.specs.declared.outcome.Outcome.TheVariants as outcomes
+use Rattle.rq_engine.specs.Fold.{State, run, answer, outcome_behind}
+use Rattle.rq_engine.specs.Meaning.{means, answers}
+use Rattle.rq_engine.specs.Lists.{means_or_answers, list_run}
+use Rattle.rq_engine.specs.Fold as engine
 use Rattle.rq_world.specs.declared.log_entry.LogEntry.{LogEntry}
-use Rattle.rq_world.specs.declared.log_entry.Content.{Content}
-use Rattle.rq_world.specs.declared.log_entry.Content.TheVariants.{Execute, StrongQuery, Batch}
-use Rattle.rq_world.specs.declared.level.Level.TheVariants as level
+use Rattle.rq_statement.specs.declared.command.Command.{Command}
+use Rattle.rq_statement.specs.declared.command.Command.TheVariants.{StrongQuery, Batch}
+use Rattle.rq_request.specs.declared.ask.Level.TheVariants as level
 use Rattle.rq_world.specs.declared.waiting.Waiting.{Waiting}
-use Rattle.rq_world.specs.Node.{QueuedWrite, PendingRead, Node}
+use Rattle.rq_world.specs.Node.{QueuedWrite, PendingRead, Node, members, commands, replica_of}
 use Rattle.rq_world.specs.Reads.{is_due}
-use Rattle.rq_world.specs.Rules.{inserted, by_number, lost_all, is_expired, expired_waiting, expired_reads, queued_is_expired, expired_queued, live_waiting, live_reads, live_queue, waiting_numbers, database_after, outcome_of, batch_waits, said, answered, still_waiting, due_answers, not_due}
+use Rattle.rq_world.specs.Rules.{inserted, by_number, lost_all, is_expired, expired_waiting, expired_reads, queued_is_expired, expired_queued, live_waiting, live_reads, live_queue, waiting_numbers, batch_waits, say_of, said, answered, still_waiting, due_answers, not_due, write_command}
 use Rattle.rq_world.specs.World.{Op, Write, Queue, Read, Note, at_place}
-use Rattle.rq_world.specs.Promise.{replica, IsPrefix, op_of, IsOutcome, IsResults, IsQueued, IsRight}
+use Rattle.rq_world.specs.Promise.{IsPrefix, op_of, IsOutcome, IsResults, IsQueued, IsRight}
 use Rattle.rq_world.proofs.Tests.{if_case, eq_true}
 use Rattle.rq_world.proofs.Prefixes.{begins_get, get_within, take_next, replayed_on}
 use Rattle.rq_world.proofs.Histories.{AllRight, op_kept}
 
 -- what an ask puts into the log
-abbrev pub entry_of : Op → Option Content
-entry_of (Write items) = Some (Execute items)
-entry_of (Queue items wait) = None
+abbrev pub entry_of : Op → Option Command
+entry_of (Write list mixed) = Some (write_command list mixed)
+entry_of (Queue list wait) = None
 entry_of (Read items level.None limit) = None
 entry_of (Read items level.Weak limit) = None
 entry_of (Read items level.Linearizable limit) = None
 entry_of (Read items level.Strong limit) = Some (StrongQuery items)
 
--- the outcome of its entry is the right answer to it
-pub outcome_right : (chosen : List LogEntry) (op : Op) (content : Content) (place : ℕ) (results : List Res) → entry_of op ≡ Some content → IsOutcome chosen place content results → IsResults chosen op place results
-outcome_right chosen (Write items) content place results is o = subst (λ (c : Content). IsOutcome chosen place c results) (sym (some (Execute items) content is)) o
-  where
-    some : (a b : Content) → Some a ≡ Some b → a ≡ b
-    some a b e = cc
-outcome_right chosen (Queue items wait) content place results is o = absurd (cc)
-outcome_right chosen (Read items level.None limit) content place results is o = absurd (cc)
-outcome_right chosen (Read items level.Weak limit) content place results is o = absurd (cc)
-outcome_right chosen (Read items level.Linearizable limit) content place results is o = absurd (cc)
-outcome_right chosen (Read items level.Strong limit) content place results is o = subst (λ (c : Content). IsOutcome chosen place c results) (sym (some (StrongQuery items) content is)) o
-  where
-    some : (a b : Content) → Some a ≡ Some b → a ≡ b
-    some a b e = cc
-
 -- a queued ask that waits, whose list stands at this position of a batch
-pub record InBatch (op : Op) (position : ℕ) (content : Content) : Type 0 where
-  pub items : List Item
-  pub is_queue : op ≡ Queue items true
-  pub lists : List (List Item)
-  pub is_batch : content ≡ Batch lists
-  pub has : slice_get lists position ≡ Some items
+pub record InBatch (op : Op) (position : ℕ) (command : Command) : Type 0 where
+  pub list : Statements
+  pub is_queue : op ≡ Queue list true
+  pub lists : List Statements
+  pub is_batch : command ≡ Batch lists
+  pub has : slice_get lists position ≡ Some list
 
 -- the entry is that of the ask, which has a sequence number if it was queued
-abbrev pub ContentFits : Op → ℕ → Option ℕ → Content → Type 0
-ContentFits op position None content = (entry_of op ≡ Some content) × (position ≡ 0)
-ContentFits op position (Some sequence) content = InBatch op position content
+abbrev pub CommandFits : Op → ℕ → Option ℕ → Command → Type 0
+CommandFits op position None command = (entry_of op ≡ Some command) × (position ≡ 0)
+CommandFits op position (Some sequence) command = InBatch op position command
 
 -- the ask waits for its entry, which is of this term
 pub record Waits (book : List Note) (log : List LogEntry) (term : ℕ) (w : Waiting) : Type 0 where
@@ -67,7 +58,7 @@ pub record Waits (book : List Note) (log : List LogEntry) (term : ℕ) (w : Wait
   pub asked : op_of book w.number ≡ Some op
   pub entry : LogEntry
   pub stands : slice_get log (w.index - 1) ≡ Some entry
-  pub fits : ContentFits op w.position w.sequence entry.content
+  pub fits : CommandFits op w.position w.sequence entry.command
   pub in_term : entry.term ≡ term
 
 abbrev pub AllWait : List Note → List LogEntry → ℕ → List Waiting → Type 0
@@ -106,7 +97,7 @@ wait_late book log term now (w ∷ ws) (one, rest) = if_case (AllWait book log t
 -- it was asked so, and waits only if that ask waits
 pub record IsHeld (book : List Note) (q : QueuedWrite) : Type 0 where
   pub wait : Bool
-  pub asked : op_of book q.number ≡ Some (Queue q.items wait)
+  pub asked : op_of book q.number ≡ Some (Queue q.list wait)
   pub waited : q.waits ≡ true → wait ≡ true
 
 abbrev pub AllHeld : List Note → List QueuedWrite → Type 0
@@ -115,7 +106,7 @@ AllHeld book (q ∷ qs) = IsHeld book q × AllHeld book qs
 
 pub held_more : (book more : List Note) (qs : List QueuedWrite) → AllHeld book qs → AllHeld (book ++ more) qs
 held_more book more [] all = tt
-held_more book more (q ∷ qs) (one, rest) = (record { wait = one.wait; asked = op_kept book more q.number (Queue q.items one.wait) one.asked; waited = one.waited }, held_more book more qs rest)
+held_more book more (q ∷ qs) (one, rest) = (record { wait = one.wait; asked = op_kept book more q.number (Queue q.list one.wait) one.asked; waited = one.waited }, held_more book more qs rest)
 
 pub held_both : (book : List Note) (one two : List QueuedWrite) → AllHeld book one → AllHeld book two → AllHeld book (one ++ two)
 held_both book [] two none all = all
@@ -138,11 +129,11 @@ held_drop book zero qs all = all
 held_drop book (suc k) [] all = tt
 held_drop book (suc k) (q ∷ qs) (one, rest) = held_drop book k qs rest
 
-abbrev pub lists_of : List QueuedWrite → List (List Item)
-lists_of qs = map (λ (q : QueuedWrite). q.items) qs
+abbrev pub lists_of : List QueuedWrite → List Statements
+lists_of qs = map (λ (q : QueuedWrite). q.list) qs
 
 -- what of a batch waits, waits for its entry
-module _ (first : List Member) (book : List Note) (log : List LogEntry) (term index : ℕ) (counts : 1 ≤ index) (entry : LogEntry) (stands : slice_get log (index - 1) ≡ Some entry) (lists : List (List Item)) (is_batch : entry.content ≡ Batch lists) (in_term : entry.term ≡ term) where
+module _ (first : List Member) (book : List Note) (log : List LogEntry) (term index : ℕ) (counts : 1 ≤ index) (entry : LogEntry) (stands : slice_get log (index - 1) ≡ Some entry) (lists : List Statements) (is_batch : entry.command ≡ Batch lists) (in_term : entry.term ≡ term) where
   pub batch_wait : (position : ℕ) (qs : List QueuedWrite) → ((k : ℕ) → slice_get lists (position + k) ≡ slice_get (lists_of qs) k) → AllHeld book qs → AllWait book log term (batch_waits first index position qs)
   batch_wait position [] at all = tt
   batch_wait position (q ∷ qs) at (one, rest) = if_case (AllWait book log term) q.waits
@@ -150,18 +141,18 @@ module _ (first : List Member) (book : List Note) (log : List LogEntry) (term in
       (λ w. (
         record {
           counts = counts;
-          op = Queue q.items one.wait;
+          op = Queue q.list one.wait;
           asked = one.asked;
           entry = entry;
           stands = stands;
-          fits = record { items = q.items; is_queue = ap (Queue q.items) (one.waited w); lists = lists; is_batch = is_batch; has = here };
+          fits = record { list = q.list; is_queue = ap (Queue q.list) (one.waited w); lists = lists; is_batch = is_batch; has = here };
           in_term = in_term;
         },
         batch_wait (position + 1) qs later rest,
       ))
       (λ _. batch_wait (position + 1) qs later rest)
     where
-      here : slice_get lists position ≡ Some q.items
+      here : slice_get lists position ≡ Some q.list
       here = let none : position + 0 ≡ position = omega arith in ap (slice_get lists) (sym none) ∙ at 0
 
       later : (k : ℕ) → slice_get lists (position + 1 + k) ≡ slice_get (lists_of qs) k
@@ -289,11 +280,11 @@ module _ (first : List Member) where
   read_left book n (r ∷ rs) (one, rest) = if_case (AllRead book) (is_due first n.raft r.pass) (not_due first n rs) (r ∷ not_due first n rs) (λ _. read_left book n rs rest) (λ _. (one, read_left book n rs rest))
 
   -- reads of the fold of a first_part of the one log
-  pub due_right : (chosen : List LogEntry) (book : List Note) (place : ℕ) (n : Node) (rs : List PendingRead) → place ≤ length chosen → n.database ≡ replica (take place chosen) → AllRead book rs → AllRight chosen book (at_place first place (due_answers first n rs))
+  pub due_right : (chosen : List LogEntry) (book : List Note) (place : ℕ) (n : Node) (rs : List PendingRead) → place ≤ length chosen → n.replica ≡ replica_of first (take place chosen) → AllRead book rs → AllRight first chosen book (at_place first place (due_answers first n rs))
   due_right chosen book place n [] le is all = tt
-  due_right chosen book place n (r ∷ rs) le is (one, rest) = if_case (λ (l : List Answer). AllRight chosen book (at_place first place l)) (is_due first n.raft r.pass) (record { number = r.pass.id; say = Results (answers n.database r.items) } ∷ due_answers first n rs) (due_answers first n rs)
+  due_right chosen book place n (r ∷ rs) le is (one, rest) = if_case (λ (l : List Answer). AllRight first chosen book (at_place first place l)) (is_due first n.raft r.pass) (record { number = r.pass.id; say = Results (answer n.replica r.items) } ∷ due_answers first n rs) (due_answers first n rs)
       (λ _. (
-        subst (λ (o : Option Op). IsRight chosen o (Results (answers n.database r.items)) place) (sym one.asked) (le, ap (λ (d : Database). answers d r.items) is),
+        subst (λ (o : Option Op). IsRight first chosen o (Results (answer n.replica r.items)) place) (sym one.asked) (le, ap (λ (d : State). answer d r.items) is),
         due_right chosen book place n rs le is rest,
       ))
       (λ _. due_right chosen book place n rs le is rest)
@@ -319,63 +310,103 @@ module _ (first : List Member) where
   waiting_all : (book : List Note) (log : List LogEntry) (at : ℕ) (n : Node) → AllWait book log at n.waiting → AllRead book n.pending_reads → AllAsked book (waiting_numbers n)
   waiting_all book log at n waits pending_reads = asked_both book (map (λ (w : Waiting). w.number) n.waiting) (map (λ (r : PendingRead). r.pass.id) n.pending_reads) (waiting_asked book log at n.waiting waits) (reading_asked book n.pending_reads pending_reads)
 
-  put_right : (chosen : List LogEntry) (book : List Note) (place : ℕ) (a : Answer) (bs : List Answer) → IsRight chosen (op_of book a.number) a.say place → AllRight chosen book (at_place first place bs) → AllRight chosen book (at_place first place (inserted a bs))
+  put_right : (chosen : List LogEntry) (book : List Note) (place : ℕ) (a : Answer) (bs : List Answer) → IsRight first chosen (op_of book a.number) a.say place → AllRight first chosen book (at_place first place bs) → AllRight first chosen book (at_place first place (inserted a bs))
   put_right chosen book place a [] right all = (right, tt)
-  put_right chosen book place a (b ∷ bs) right (one, rest) = if_case (λ (l : List Answer). AllRight chosen book (at_place first place l)) (nat_lt a.number b.number) (a ∷ b ∷ bs) (b ∷ inserted a bs)
+  put_right chosen book place a (b ∷ bs) right (one, rest) = if_case (λ (l : List Answer). AllRight first chosen book (at_place first place l)) (nat_lt a.number b.number) (a ∷ b ∷ bs) (b ∷ inserted a bs)
       (λ _. (right, (one, rest))) (λ _. (one, put_right chosen book place a bs right rest))
 
-  all_lost : (chosen : List LogEntry) (book : List Note) (place term now : ℕ) (ks : List ℕ) → AllAsked book ks → AllRight chosen book (at_place first place (lost_all term now ks))
+  all_lost : (chosen : List LogEntry) (book : List Note) (place term now : ℕ) (ks : List ℕ) → AllAsked book ks → AllRight first chosen book (at_place first place (lost_all term now ks))
   all_lost chosen book place term now [] all = tt
-  all_lost chosen book place term now (k ∷ ks) (a, rest) = put_right chosen book place (record { number = k; say = Lost term now }) (lost_all term now ks)
-      (subst (λ (o : Option Op). IsRight chosen o (Lost term now) place) (sym a.1) tt) (all_lost chosen book place term now ks rest)
+  all_lost chosen book place term now (k ∷ ks) (a, rest) = put_right chosen book place (record { number = k; say = Refused (Lost term now) }) (lost_all term now ks)
+      (subst (λ (o : Option Op). IsRight first chosen o (Refused (Lost term now)) place) (sym a.1) tt) (all_lost chosen book place term now ks rest)
 
   -- what is lost is answered rightly
-  pub lost_right : (chosen : List LogEntry) (book : List Note) (log : List LogEntry) (at place term now : ℕ) (n : Node) → AllWait book log at n.waiting → AllRead book n.pending_reads → AllRight chosen book (at_place first place (lost_all term now (waiting_numbers n)))
+  pub lost_right : (chosen : List LogEntry) (book : List Note) (log : List LogEntry) (at place term now : ℕ) (n : Node) → AllWait book log at n.waiting → AllRead book n.pending_reads → AllRight first chosen book (at_place first place (lost_all term now (waiting_numbers n)))
   lost_right chosen book log at place term now n waits pending_reads = all_lost chosen book place term now (waiting_numbers n) (waiting_all book log at n waits pending_reads)
 
 module _ (first : List Member) where
   -- lists of answers that are right in any order
   abbrev PacketsAreTrue : List LogEntry → List Note → ℕ → List Answer → Type 0
   PacketsAreTrue chosen book place [] = ⊤
-  PacketsAreTrue chosen book place (a ∷ more) = IsRight chosen (op_of book a.number) a.say place × PacketsAreTrue chosen book place more
+  PacketsAreTrue chosen book place (a ∷ more) = IsRight first chosen (op_of book a.number) a.say place × PacketsAreTrue chosen book place more
 
   told_both : (chosen : List LogEntry) (book : List Note) (place : ℕ) (one two : List Answer) → PacketsAreTrue chosen book place one → PacketsAreTrue chosen book place two → PacketsAreTrue chosen book place (one ++ two)
   told_both chosen book place [] two none all = all
   told_both chosen book place (a ∷ one) two (right, rest) all = (right, told_both chosen book place one two rest all)
 
-  told_in_order : (chosen : List LogEntry) (book : List Note) (place : ℕ) (l : List Answer) → PacketsAreTrue chosen book place l → AllRight chosen book (at_place first place (by_number l))
+  told_in_order : (chosen : List LogEntry) (book : List Note) (place : ℕ) (l : List Answer) → PacketsAreTrue chosen book place l → AllRight first chosen book (at_place first place (by_number l))
   told_in_order chosen book place [] all = tt
   told_in_order chosen book place (a ∷ l) (right, rest) = put_right first chosen book place a (by_number l) right (told_in_order chosen book place l rest)
 
   late_waits : (chosen : List LogEntry) (book : List Note) (log : List LogEntry) (term place now : ℕ) (ws : List Waiting) → AllWait book log term ws → PacketsAreTrue chosen book place (expired_waiting now ws)
   late_waits chosen book log term place now [] all = tt
-  late_waits chosen book log term place now (w ∷ ws) (one, rest) = if_case (PacketsAreTrue chosen book place) (is_expired now w.asked w.timeout) (record { number = w.number; say = Timeout w.asked now } ∷ expired_waiting now ws) (expired_waiting now ws)
-      (λ _. (subst (λ (o : Option Op). IsRight chosen o (Timeout w.asked now) place) (sym one.asked) tt, late_waits chosen book log term place now ws rest)) (λ _. late_waits chosen book log term place now ws rest)
+  late_waits chosen book log term place now (w ∷ ws) (one, rest) = if_case (PacketsAreTrue chosen book place) (is_expired now w.asked w.timeout) (record { number = w.number; say = Refused (Timeout w.asked now) } ∷ expired_waiting now ws) (expired_waiting now ws)
+      (λ _. (subst (λ (o : Option Op). IsRight first chosen o (Refused (Timeout w.asked now)) place) (sym one.asked) tt, late_waits chosen book log term place now ws rest)) (λ _. late_waits chosen book log term place now ws rest)
 
   late_reads : (chosen : List LogEntry) (book : List Note) (place now : ℕ) (rs : List PendingRead) → AllRead book rs → PacketsAreTrue chosen book place (expired_reads now rs)
   late_reads chosen book place now [] all = tt
-  late_reads chosen book place now (r ∷ rs) (one, rest) = if_case (PacketsAreTrue chosen book place) (is_expired now r.asked r.timeout) (record { number = r.pass.id; say = Timeout r.asked now } ∷ expired_reads now rs) (expired_reads now rs)
-      (λ _. (subst (λ (o : Option Op). IsRight chosen o (Timeout r.asked now) place) (sym one.asked) tt, late_reads chosen book place now rs rest)) (λ _. late_reads chosen book place now rs rest)
+  late_reads chosen book place now (r ∷ rs) (one, rest) = if_case (PacketsAreTrue chosen book place) (is_expired now r.asked r.timeout) (record { number = r.pass.id; say = Refused (Timeout r.asked now) } ∷ expired_reads now rs) (expired_reads now rs)
+      (λ _. (subst (λ (o : Option Op). IsRight first chosen o (Refused (Timeout r.asked now)) place) (sym one.asked) tt, late_reads chosen book place now rs rest)) (λ _. late_reads chosen book place now rs rest)
 
   late_held : (chosen : List LogEntry) (book : List Note) (place now : ℕ) (qs : List QueuedWrite) → AllHeld book qs → PacketsAreTrue chosen book place (expired_queued now qs)
   late_held chosen book place now [] all = tt
-  late_held chosen book place now (q ∷ qs) (one, rest) = if_case (PacketsAreTrue chosen book place) (queued_is_expired now q) (record { number = q.number; say = Timeout q.asked now } ∷ expired_queued now qs) (expired_queued now qs)
-      (λ _. (subst (λ (o : Option Op). IsRight chosen o (Timeout q.asked now) place) (sym one.asked) tt, late_held chosen book place now qs rest)) (λ _. late_held chosen book place now qs rest)
+  late_held chosen book place now (q ∷ qs) (one, rest) = if_case (PacketsAreTrue chosen book place) (queued_is_expired now q) (record { number = q.number; say = Refused (Timeout q.asked now) } ∷ expired_queued now qs) (expired_queued now qs)
+      (λ _. (subst (λ (o : Option Op). IsRight first chosen o (Refused (Timeout q.asked now)) place) (sym one.asked) tt, late_held chosen book place now qs rest)) (λ _. late_held chosen book place now qs rest)
 
   pub late_right : (chosen : List LogEntry) (book : List Note) (log : List LogEntry) (term place now : ℕ) (n : Node) → AllWait book log term n.waiting → AllRead book n.pending_reads → AllHeld book n.queue
-      → AllRight chosen book (at_place first place (by_number (expired_waiting now n.waiting ++ (expired_reads now n.pending_reads ++ expired_queued now n.queue))))
+      → AllRight first chosen book (at_place first place (by_number (expired_waiting now n.waiting ++ (expired_reads now n.pending_reads ++ expired_queued now n.queue))))
   late_right chosen book log term place now n waits pending_reads held = told_in_order chosen book place (expired_waiting now n.waiting ++ (expired_reads now n.pending_reads ++ expired_queued now n.queue))
       (told_both chosen book place (expired_waiting now n.waiting) (expired_reads now n.pending_reads ++ expired_queued now n.queue) (late_waits chosen book log term place now n.waiting waits)
       (told_both chosen book place (expired_reads now n.pending_reads) (expired_queued now n.queue) (late_reads chosen book place now n.pending_reads pending_reads) (late_held chosen book place now n.queue held)))
 
+-- the outcome of its entry is the right answer to an ask that waits for it
+module _ (first : List Member) (chosen : List LogEntry) (place : ℕ) (counts : 1 ≤ place) (entry : LogEntry) (stands : slice_get chosen (place - 1) ≡ Some entry) where
+  abbrev outcome_of : Command → Outcome
+  outcome_of command = outcome_behind (members first) (commands (take (place - 1) chosen)) command
+
+  -- it has results
+  by_results : (op : Op) (command : Command) (results : List Res) → entry.command ≡ command → outcome_of command ≡ outcomes.Results results
+      → (IsOutcome first chosen place command results → IsResults first chosen op place results) → IsRight first chosen (Some op) (say_of (outcome_of command)) place
+  by_results op command results is made right = subst (λ (o : Outcome). IsRight first chosen (Some op) (say_of o) place) (sym made) (right (record { counts = counts; entry = entry; stands = stands; is_command = is; outcome = made }))
+
+  abbrev before : State
+  before = replica_of first (take (place - 1) chosen)
+
+  written : (list : Statements) (mixed : Bool) → (results : List Res) × (outcome_of (write_command list mixed) ≡ outcomes.Results results)
+  unfolding run
+  written list false = ((list_run means before.database list).1, refl)
+  written list true = ((list_run means_or_answers before.database list).1, refl)
+
+  asked_strongly : (items : List Item) → (results : List Res) × (outcome_of (StrongQuery items) ≡ outcomes.Results results)
+  unfolding run
+  asked_strongly items = (answers before.database items, refl)
+
+  some : (a b : Command) → Some a ≡ Some b → a ≡ b
+  some a b e = cc
+
+  pub outcome_right : (op : Op) (command : Command) → entry.command ≡ command → entry_of op ≡ Some command → IsRight first chosen (Some op) (say_of (outcome_of command)) place
+  outcome_right (Write list mixed) command is e =
+      let w = written list mixed in
+      let same = some (write_command list mixed) command e in
+      subst (λ (c : Command). IsRight first chosen (Some (Write list mixed)) (say_of (outcome_of c)) place) same (by_results (Write list mixed) (write_command list mixed) w.0 (is ∙ sym same) w.1 (λ o. o))
+  outcome_right (Queue list wait) command is e = absurd (cc)
+  outcome_right (Read items level.None limit) command is e = absurd (cc)
+  outcome_right (Read items level.Weak limit) command is e = absurd (cc)
+  outcome_right (Read items level.Linearizable limit) command is e = absurd (cc)
+  outcome_right (Read items level.Strong limit) command is e =
+      let w = asked_strongly items in
+      let same = some (StrongQuery items) command e in
+      let op = Read items level.Strong limit in
+      subst (λ (c : Command). IsRight first chosen (Some op) (say_of (outcome_of c)) place) same (by_results op (StrongQuery items) w.0 (is ∙ sym same) w.1 (λ o. o))
+
 -- one entry more is applied, which the one log has too
-module _ (first : List Member) (chosen log : List LogEntry) (applied : ℕ) (database : Database) (replica_is : database ≡ replica (take applied log))
+module _ (first : List Member) (chosen log : List LogEntry) (applied : ℕ) (state : State) (replica_is : state ≡ replica_of first (take applied log))
     (first_part : take (applied + 1) chosen ≡ take (applied + 1) log) (entry : LogEntry) (is : slice_get log applied ≡ Some entry) where
-  pub folds : replica (take (applied + 1) log) ≡ database_after database entry.content
+  pub folds : replica_of first (take (applied + 1) log) ≡ (run state entry.command).0
   folds =
-      ap replica (take_next log applied entry is)
-      ∙ replayed_on [] (take applied log) (entry ∷ [])
-      ∙ ap (λ (d : Database). database_after d entry.content) (sym replica_is)
+      ap (replica_of first) (take_next log applied entry is)
+      ∙ replayed_on (engine.first (members first)) (take applied log) (entry ∷ [])
+      ∙ ap (λ (s : State). (run s entry.command).0) (sym replica_is)
 
   get_take : (n : ℕ) (a : List LogEntry) (k : ℕ) → k < n → slice_get (take n a) k ≡ slice_get a k
   get_take zero a k lt = absurd (omega arith)
@@ -391,8 +422,8 @@ module _ (first : List Member) (chosen log : List LogEntry) (applied : ℕ) (dat
 
   -- the answer to an ask that waits for the entry
   answer_right : (book : List Note) (term : ℕ) (w : Waiting) → w.index ≡ applied + 1 → Waits book log term w
-      → IsRight chosen (op_of book w.number) (said (outcome_of database entry.content) w.sequence) (applied + 1)
-  answer_right book term w at asks = subst (λ (o : Option Op). IsRight chosen o (said (outcome_of database entry.content) w.sequence) (applied + 1)) (sym asks.asked) (by_sequence w.sequence asks.fits)
+      → IsRight first chosen (op_of book w.number) (said (run state entry.command).1 w.sequence) (applied + 1)
+  answer_right book term w at asks = subst (λ (o : Option Op). IsRight first chosen o (said (run state entry.command).1 w.sequence) (applied + 1)) (sym asks.asked) (by_sequence w.sequence asks.fits)
     where
       index : w.index - 1 ≡ applied
       index = omega (arith, at)
@@ -403,31 +434,32 @@ module _ (first : List Member) (chosen log : List LogEntry) (applied : ℕ) (dat
       there : slice_get log applied ≡ Some asks.entry
       there = ap (slice_get log) (sym index) ∙ asks.stands
 
-      content_in : Option LogEntry → Content
-      content_in None = entry.content
-      content_in (Some e) = e.content
+      command_in : Option LogEntry → Command
+      command_in None = entry.command
+      command_in (Some e) = e.command
 
-      content : entry.content ≡ asks.entry.content
-      content = ap content_in (sym is ∙ there)
+      command : entry.command ≡ asks.entry.command
+      command = ap command_in (sym is ∙ there)
 
       enqueued : slice_get chosen (applied + 1 - 1) ≡ Some asks.entry
       enqueued = ap (slice_get chosen) next ∙ get_same chosen log applied first_part ∙ there
 
-      made : outcome_of database entry.content ≡ outcome_of (replica (take (applied + 1 - 1) chosen)) asks.entry.content
+      made : (run state entry.command).1 ≡ outcome_behind (members first) (commands (take (applied + 1 - 1) chosen)) asks.entry.command
       made =
-          ap (λ (d : Database). outcome_of d entry.content) replica_is
-          ∙ ap (λ (c : Content). outcome_of (replica (take applied log)) c) content
-          ∙ ap (λ (l : List LogEntry). outcome_of (replica l) asks.entry.content) (sym (take_less chosen log applied first_part))
-          ∙ ap (λ (k : ℕ). outcome_of (replica (take k chosen)) asks.entry.content) (sym next)
+          ap (λ (s : State). (run s entry.command).1) replica_is
+          ∙ ap (λ (c : Command). (run (replica_of first (take applied log)) c).1) command
+          ∙ ap (λ (l : List LogEntry). (run (replica_of first l) asks.entry.command).1) (sym (take_less chosen log applied first_part))
+          ∙ ap (λ (k : ℕ). (run (replica_of first (take k chosen)) asks.entry.command).1) (sym next)
 
-      by_sequence : (s : Option ℕ) → ContentFits asks.op w.position s asks.entry.content → IsRight chosen (Some asks.op) (said (outcome_of database entry.content) s) (applied + 1)
-      by_sequence None fits = outcome_right chosen asks.op asks.entry.content (applied + 1) (outcome_of database entry.content) fits.0 (record { counts = omega arith; entry = asks.entry; stands = enqueued; is_content = refl; outcome = made })
-      by_sequence (Some sequence) fits = subst (λ (op : Op). IsQueued chosen op (applied + 1)) (sym fits.is_queue)
+      by_sequence : (s : Option ℕ) → CommandFits asks.op w.position s asks.entry.command → IsRight first chosen (Some asks.op) (said (run state entry.command).1 s) (applied + 1)
+      by_sequence None fits = subst (λ (o : Outcome). IsRight first chosen (Some asks.op) (say_of o) (applied + 1)) (sym made)
+          (outcome_right first chosen (applied + 1) (omega arith) asks.entry enqueued asks.op asks.entry.command refl fits.0)
+      by_sequence (Some sequence) fits = subst (λ (op : Op). IsQueued first chosen op (applied + 1)) (sym fits.is_queue)
           (record { counts = omega arith; entry = asks.entry; stands = enqueued; lists = fits.lists; is_batch = fits.is_batch; position = w.position; has = fits.has })
 
   pub answers_right : (book : List Note) (term : ℕ) (ws : List Waiting) → AllWait book log term ws
-      → AllRight chosen book (at_place first (applied + 1) (answered (applied + 1) (outcome_of database entry.content) ws))
+      → AllRight first chosen book (at_place first (applied + 1) (answered (applied + 1) (run state entry.command).1 ws))
   answers_right book term [] all = tt
-  answers_right book term (w ∷ ws) (one, rest) = if_case (λ (l : List Answer). AllRight chosen book (at_place first (applied + 1) l)) (w.index == applied + 1)
-      (record { number = w.number; say = said (outcome_of database entry.content) w.sequence } ∷ answered (applied + 1) (outcome_of database entry.content) ws) []
+  answers_right book term (w ∷ ws) (one, rest) = if_case (λ (l : List Answer). AllRight first chosen book (at_place first (applied + 1) l)) (w.index == applied + 1)
+      (record { number = w.number; say = said (run state entry.command).1 w.sequence } ∷ answered (applied + 1) (run state entry.command).1 ws) []
       (λ same. (answer_right book term w (eq_true w.index (applied + 1) same) one, answers_right book term ws rest)) (λ _. tt)

@@ -1,7 +1,7 @@
 -- Each ask is answered once, and behind its note. docs/RAFT.md, "From the rules to one log".
 use Rattle.std.specs.Prelude.{ℕ, ◌≡◌, Some, List, slice_get, take}
 use Rattle.rq_wire.specs.declared.config.Member.{Member}
-use Rattle.rq_world.specs.declared.say.Say.{Say}
+use Rattle.rq_request.specs.declared.say.Say.{Say}
 use Rattle.rq_world.specs.World.{Op, Answered, Run, world}
 use Rattle.rq_world.specs.Promise.{op_of, IsNumbered}
 

@@ -2,13 +2,13 @@
 use Rattle.std.specs.Prelude.{ℕ, ◌+◌, ◌-◌, ◌≡◌, ◌⊎◌, Some, List, [], ◌∷◌, ◌++◌, length, slice_get}
 use Rattle.rq_wire.specs.declared.config.Member.{Member}
 use Rattle.rq_history.specs.History.{NodeId}
-use Rattle.rq_statement.specs.declared.item.Item.{Item}
-use Rattle.rq_world.specs.declared.say.Say.{Say}
+use Rattle.rq_statement.specs.Statements.{Statements}
+use Rattle.rq_request.specs.declared.say.Say.{Say}
 use Rattle.rq_world.specs.declared.log_entry.LogEntry.{LogEntry}
-use Rattle.rq_world.specs.declared.log_entry.Content.{Content}
-use Rattle.rq_world.specs.declared.log_entry.Content.TheVariants.{Execute, Batch}
+use Rattle.rq_statement.specs.declared.command.Command.{Command}
+use Rattle.rq_statement.specs.declared.command.Command.TheVariants.{Batch}
 use Rattle.rq_world.specs.Node.{QueuedWrite, Node}
-use Rattle.rq_world.specs.Rules.{batch}
+use Rattle.rq_world.specs.Rules.{batch, write_command}
 use Rattle.rq_world.specs.World.{Op, Write, Queue, Read, Answered, Act, Ask, Elect, Beat, Flush, Apply, Compact, Deliver, Tick, Idle, Event, At, Stop, Fail, Start, FailStart, Clock, Run, Then, world, IsPast, turn, chosen}
 use Rattle.rq_world.specs.Laws.{Runs}
 use Rattle.rq_world.specs.Promise.{op_of, IsAcknowledged, IsNumbered}
@@ -22,11 +22,11 @@ Performs (Start i k) who act = ⊥
 Performs (FailStart i k) who act = ⊥
 Performs (Clock moment) who act = ⊥
 
--- the entry holds what was asked: an execute by itself, a queued list at its position in a batch
-abbrev pub Holds : Op → ℕ → Content → Type 0
-Holds (Write items) position content = (position ≡ 0) × (content ≡ Execute items)
-Holds (Queue items wait) position content = (lists : List (List Item)) × (content ≡ Batch lists) × (slice_get lists position ≡ Some items)
-Holds (Read items level limit) position content = ⊥
+-- the entry holds what was asked: a written list by itself, a queued list at its position in a batch
+abbrev pub Holds : Op → ℕ → Command → Type 0
+Holds (Write list mixed) position command = (position ≡ 0) × (command ≡ write_command list mixed)
+Holds (Queue list wait) position command = (lists : List Statements) × (command ≡ Batch lists) × (slice_get lists position ≡ Some list)
+Holds (Read items level limit) position command = ⊥
 
 module _ (first : List Member) where
   -- the act appends for the ask of this number: that ask itself, at position 0, or a flush of it, at its position in the batch
@@ -77,7 +77,7 @@ module _ (first : List Member) where
     pub appended : IsAppended run number entry.term index position
     pub op : Op
     pub asked : op_of (world first run).book number ≡ Some op
-    pub holds : Holds op position entry.content
+    pub holds : Holds op position entry.command
 
   pub record WritesHavePlaces (run : Run) : Type 0 where
     -- each write that was acknowledged at an index has a place there ..

@@ -5,10 +5,10 @@ use Rattle.rq_raft.specs.declared.role.Role.TheVariants.{Leader}
 use Rattle.rq_wire.specs.declared.config.Member.{Member}
 use Rattle.rq_statement.specs.declared.item.Item.{Item}
 use Rattle.rq_statement.specs.declared.res.Res.{Res}
-use Rattle.rq_world.specs.declared.say.Say.{Say}
-use Rattle.rq_world.specs.declared.say.Say.TheVariants.{Results}
-use Rattle.rq_world.specs.declared.level.Level.{Level}
-use Rattle.rq_world.specs.declared.level.Level.TheVariants as level
+use Rattle.rq_request.specs.declared.say.Say.{Say}
+use Rattle.rq_request.specs.declared.say.Say.TheVariants.{Results}
+use Rattle.rq_request.specs.declared.ask.Level.{Level}
+use Rattle.rq_request.specs.declared.ask.Level.TheVariants as level
 use Rattle.rq_world.specs.Node.{Node}
 use Rattle.rq_world.specs.World.{Op, Read, Note, Asked, Answered, Ask, Event, At, Run, Then, world, IsPast, chosen}
 use Rattle.rq_world.specs.Laws.{Runs}
@@ -65,4 +65,4 @@ module _ (first : List Member) where
   abbrev pub EachReadCovers : Type 0
   EachReadCovers = (run : Run) → IsNumbered first run → (k number place : ℕ) (results : List Res) (items : List Item) (level : Level) (limit : Option ℕ)
       → slice_get (world first run).book k ≡ Some (Answered number (Results results) place) → op_of (world first run).book number ≡ Some (Read items level limit)
-      → IsReadRight (chosen first run) level place items results × Covers (world first run).book number level place × IsPlaced run k number place results (Read items level limit) level
+      → IsReadRight first (chosen first run) level place items results × Covers (world first run).book number level place × IsPlaced run k number place results (Read items level limit) level

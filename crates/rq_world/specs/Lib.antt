@@ -1,4 +1,3 @@
-pub mod Commands
 pub mod Node
 pub mod Reads
 pub mod Rules

@@ -1,6 +1,6 @@
 -- Reads by a pass: docs/RAFT.md, "Reads". Source: Ongaro's dissertation, section 6.4.
 use Rattle.std.specs.Prelude.{ℕ, ◌≤◌, ◌≡◌, max, true, Some, List, slice_get}
-use Rattle.rq_world.specs.declared.say.Say.{Say}
+use Rattle.rq_request.specs.declared.say.Say.{Say}
 use Rattle.rq_wire.specs.declared.config.Member.{Member}
 use Rattle.rq_history.specs.History.{NodeId}
 use Rattle.rq_world.specs.Node.{Node}

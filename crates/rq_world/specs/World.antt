@@ -1,19 +1,21 @@
 -- The world: its nodes, every packet ever sent, and the book of what was asked and answered. docs/RAFT.md, "The world".
 use Rattle.std.specs.Prelude.{ℕ, ◌+◌, ◌≡◌, ◌⊎◌, nat_lt, max, if◌then◌else◌, bytes_eq, Bool, Option, None, List, [], ◌∷◌, ◌++◌, length, take, fold, map, slice_get}
 use Rattle.rq_statement.specs.declared.item.Item.{Item}
-use Rattle.rq_world.specs.declared.say.Say.{Say}
-use Rattle.rq_world.specs.declared.say.Answer.{Answer}
+use Rattle.rq_statement.specs.Statements.{Statements}
+use Rattle.rq_request.specs.declared.say.Say.{Say}
+use Rattle.rq_request.specs.declared.say.Answer.{Answer}
 use Rattle.rq_wire.specs.declared.config.Member.{Member}
 use Rattle.rq_history.specs.History.{NodeId}
 use Rattle.rq_raft.specs.Node.{Packet, StoredRecord, Persistent, persistent_after, one_of}
 use Rattle.rq_world.specs.declared.log_entry.LogEntry.{LogEntry}
+pub use Rattle.rq_world.specs.Node.{members}
 use Rattle.rq_world.specs.Node.{Node, persistent_of, Turn, unchanged}
-use Rattle.rq_world.specs.Rules.{elect, beat, receive, execute, enqueue, flush, read, tick, apply, compact, started}
-use Rattle.rq_world.specs.declared.level.Level.{Level}
+use Rattle.rq_world.specs.Rules.{elect, beat, receive, write, enqueue, flush, read, tick, apply, compact, started}
+use Rattle.rq_request.specs.declared.ask.Level.{Level}
 
 pub data Op : Type 0 where
-  Write : (items : List Item) → Op
-  Queue : (items : List Item) (wait : Bool) → Op  -- a write that may stand in a queue; where it waits, it is answered when it is applied
+  Write : (list : Statements) (mixed : Bool) → Op  -- a mixed list may read too
+  Queue : (list : Statements) (wait : Bool) → Op  -- a write that may stand in a queue; where it waits, it is answered when it is applied
   Read : (items : List Item) (level : Level) (limit : Option ℕ) → Op  -- at level none with a limit on how long ago the node heard of its leader
 
 -- an ask was put to this node, or it was answered at a place: the index of its entry, or how many entries the database had that was read
@@ -59,8 +61,8 @@ pub data Run : Type 0 where
 
 module _ (first : List Member) where
   abbrev pub asked : Node → ℕ → ℕ → ℕ → Op → Turn
-  asked n number moment timeout (Write items) = execute first n number moment timeout items
-  asked n number moment timeout (Queue items wait) = enqueue first n number moment timeout items wait
+  asked n number moment timeout (Write list mixed) = write first n number moment timeout list mixed
+  asked n number moment timeout (Queue list wait) = enqueue first n number moment timeout list wait
   asked n number moment timeout (Read items level limit) = read first n number moment timeout items level limit
 
   -- what a node does in a world with these packets, at this moment
@@ -137,20 +139,17 @@ module _ (first : List Member) where
 
   abbrev pub starts_at : World → NodeId → ℕ → NodeState → World
   starts_at w i k (Running n) = w
-  starts_at w i k (Down kept rest) = record w { nodes = set_node w.nodes i (Running (started i (persistent_after kept (take k rest))).node) }
+  starts_at w i k (Down kept rest) = record w { nodes = set_node w.nodes i (Running (started first i (persistent_after kept (take k rest))).node) }
 
   abbrev pub fails_start : World → NodeId → ℕ → NodeState → World
   fails_start w i k (Running n) = w
-  fails_start w i k (Down kept rest) = record w { nodes = set_node w.nodes i (Down (persistent_after kept (take k rest)) (started i (persistent_after kept (take k rest))).stored) }
-
-  abbrev pub members : List NodeId
-  members = map (λ (m : Member). m.id) first
+  fails_start w i k (Down kept rest) = record w { nodes = set_node w.nodes i (Down (persistent_after kept (take k rest)) (started first i (persistent_after kept (take k rest))).stored) }
 
   abbrev pub happens : World → Event → World
   happens w (At i a) = happens_at w i a (w.nodes i)
   happens w (Stop i a k) = stops_at w i a k (w.nodes i)
   happens w (Fail i a) = fails_at w i a (w.nodes i)
-  happens w (Start i k) = if one_of members i then starts_at w i k (w.nodes i) else w
+  happens w (Start i k) = if one_of (members first) i then starts_at w i k (w.nodes i) else w
   happens w (FailStart i k) = fails_start w i k (w.nodes i)
   happens w (Clock moment) = record w { moment = max w.moment moment }
 

@@ -2,12 +2,8 @@
 #![tactic(auto)]
 
 pub mod laws;
-mod level;
 mod log_entry;
-mod say;
 mod waiting;
 
-pub use level::Level;
-pub use log_entry::{Content, LogEntry};
-pub use say::{Answer, Say};
+pub use log_entry::LogEntry;
 pub use waiting::Waiting;
