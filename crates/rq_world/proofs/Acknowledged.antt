@@ -7,7 +7,7 @@ use Rattle.rq_statement.specs.declared.item.Item.{Item}
 use Rattle.rq_statement.specs.declared.res.Res.{Res}
 use Rattle.rq_request.specs.declared.say.Say.{Say}
 use Rattle.rq_request.specs.declared.say.Say.TheVariants.{Results}
-use Rattle.rq_history.specs.History.{NodeId, Node as HistoryNode, History, now, Was, term_at}
+use Rattle.rq_history.specs.History.{NodeId, Node as HistoryNode, term_at}
 use Rattle.rq_history.specs.Laws.{LaterEntriesCover}
 use Rattle.rq_raft.specs.Entries.{entry_view, voters}
 use Rattle.rq_raft.specs.Truth.{role_of, history_node, Refines}
@@ -21,9 +21,9 @@ use Rattle.rq_request.specs.declared.ask.Level.TheVariants as level
 use Rattle.rq_world.specs.declared.waiting.Waiting.{Waiting}
 use Rattle.rq_world.specs.Node.{Pass, PendingRead, Node, log_entries, Turn}
 use Rattle.rq_world.specs.Reads.{is_confirmed, is_ready}
-use Rattle.rq_world.specs.World.{Op, Write, Queue, Read, Note, Asked, Answered, NodeState, Running, Act, Ask, Event, At, Run as Events, First, Then, note_of, place_of, at_place, world, IsPast, chosen}
+use Rattle.rq_world.specs.World.{Op, Queue, Read, Note, Asked, Answered, NodeState, Act, Ask, Event, At, Run as Events, First, Then, note_of, place_of, at_place, world, IsPast, chosen}
 use Rattle.rq_world.specs.Laws.{Runs, Leads}
-use Rattle.rq_world.specs.Promise.{op_of, IsReadRight, IsAcknowledged, IsNumbered}
+use Rattle.rq_world.specs.Promise.{op_of, IsAcknowledged, IsNumbered}
 use Rattle.rq_world.specs.Passes.{PassCoversAcknowledged}
 use Rattle.rq_world.specs.Covers.{before_ask, IsAcknowledgedBefore, Covers, NeedsLeader, IsPlaced, EachReadCovers}
 use Rattle.rq_world.proofs.Tests.{and_true, eq_true, le_true}
@@ -35,7 +35,7 @@ use Rattle.rq_world.proofs.Waits.{entry_of, CommandFits as FitsEntry, Waits}
 use Rattle.rq_world.proofs.Promises.{Serves, Sound, sound}
 use Rattle.rq_world.proofs.Passes.{Known}
 use Rattle.rq_world.proofs.Covering.{Acted, Still, kind, t, pr, runs_next, who_runs, since, pass_covers}
-use Rattle.rq_world.proofs.Answering.{note_both, HasReading, HasWaiting, has_at, IsQuick, ReadingFrom, WaitingFrom, IsBegun, IsTaken, IsFlushed, IsNext, IsOwn, IsDue, Source, Own, Next, Due, act_gives}
+use Rattle.rq_world.proofs.Answering.{note_both, HasReading, HasWaiting, has_at, IsQuick, ReadingFrom, WaitingFrom, IsNext, IsOwn, IsDue, Source, Own, Next, Due, act_gives}
 use Rattle.rq_world.proofs.Apart.{wait_get, book_of, IsAnswered, still_old, more, book_is, asks, source_of, due_asked, Fresh, kinds, new_number, passed}
 
 -- ---- what was noted before an ask

@@ -21,7 +21,7 @@ use Rattle.rq_request.specs.declared.ask.Level.{Level}
 use Rattle.rq_request.specs.declared.ask.Level.TheVariants as level
 use Rattle.rq_world.specs.Node.{QueuedWrite, Node, log_entries, Turn, unchanged, says, replica_of}
 use Rattle.rq_world.specs.Reads.{begin, is_stale, limit_of}
-use Rattle.rq_world.specs.Rules.{max_command_bytes, stays_on, steps_down, raft_turn, reads, counts, with_reads, restored, receive, max_queued_bytes, queue_capacity, max_batch, appends, appended_for, enqueued, if_not_full, if_not_too_large, enqueue, batch, batch_waits, batch_entry, flushed, flush, proposed, if_leads, query, query_if_fresh, begun, read, tick, applied_raft, applied_command, applied_entry, apply, compact, write, write_command}
+use Rattle.rq_world.specs.Rules.{max_command_bytes, stays_on, steps_down, raft_turn, reads, counts, with_reads, receive, max_queued_bytes, queue_capacity, max_batch, appends, appended_for, enqueued, if_not_full, if_not_too_large, enqueue, batch, batch_waits, batch_entry, flushed, flush, proposed, if_leads, query, query_if_fresh, begun, read, tick, applied_raft, applied_command, applied_entry, apply, write, write_command}
 use Rattle.rq_world.specs.World.{Write, Queue, Read, Act, Ask, Elect, Beat, Flush, Apply, Compact, Deliver, Tick, Idle, act}
 use Rattle.rq_world.proofs.Tests.{if_case, eq_self, id_self, id_true}
 use Rattle.rq_world.proofs.Given.{Given, Run}

@@ -4,7 +4,6 @@ use Rattle.std.specs.Prelude.{nat_lt, nat_le, bytes_eq, drop, map, ⊤}
 use Rattle.rq_statement.specs.Statements.{Statements}
 use Rattle.rq_wire.specs.declared.config.Member.{Member}
 use Rattle.rq_statement.specs.declared.item.Item.{Item}
-use Rattle.rq_statement.specs.declared.res.Res.{Res}
 use Rattle.rq_request.specs.declared.say.Say.{Say}
 use Rattle.rq_request.specs.declared.say.Say.TheVariants.{Results, Queued, Loaded, Backup, Nodes, Ready, Changed, Moved, Refused}
 use Rattle.rq_request.specs.declared.say.NodeRefusal.TheVariants.{NoLeader, Lost, Timeout, Stale, EntryTooLarge, QueuedTooLarge, QueueFull}

@@ -31,7 +31,7 @@ use Rattle.rq_world.proofs.Tests.{if_case, and_true}
 use Rattle.rq_world.proofs.Given.{Given}
 use Rattle.rq_world.proofs.Safety.{here, sim_of, was_in, fits_in, one_leader}
 use Rattle.rq_world.proofs.Histories.{op_kept}
-use Rattle.rq_world.proofs.Promises.{Sound, sound, number_is}
+use Rattle.rq_world.proofs.Promises.{sound, number_is}
 use Rattle.rq_world.proofs.Passes.{Known}
 use Rattle.rq_world.proofs.Covering.{Acted, Still, kind, t, pr, who_runs}
 use Rattle.rq_world.proofs.Apart.{new_number, passed, comes_once}

@@ -1,9 +1,8 @@
--- How often a number waits at a node, and how often it is answered: no act makes more of both together than there was, but for an ask's own number.
-use Rattle.std.proofs.Common.{◌≡◌, ◌≤◌, ℕ, zero, suc, ◌+◌, ◌&&◌, nat_eq, List, [], ◌∷◌, ◌++◌, length, map, take, drop, slice_get, Bool, true, false, cond, Option, Some, None, refl, arith}
+-- How often a number waits at a node, and how often it is answered: an act leaves of both together what waited before, and an ask's own number.
+use Rattle.std.proofs.Common.{◌≡◌, ℕ, zero, suc, ◌+◌, ◌&&◌, nat_eq, List, [], ◌∷◌, ◌++◌, length, map, take, drop, slice_get, Bool, true, false, cond, if◌then◌else◌, Option, Some, None, refl, ◌∙◌, arith}
 use Rattle.std.specs.Prelude.{nat_lt, nat_le, not, bytes_eq, ◌==◌}
 use Rattle.rq_statement.specs.Statements.{Statements}
 use Rattle.rq_statement.specs.declared.item.Item.{Item}
-use Rattle.rq_statement.specs.declared.res.Res.{Res}
 use Rattle.rq_engine.specs.declared.outcome.Outcome.{Outcome}
 use Rattle.rq_engine.specs.Fold.{answer, run}
 use Rattle.rq_statement.specs.Bytes.{command_bytes}
@@ -25,8 +24,9 @@ use Rattle.rq_request.specs.declared.ask.Level.TheVariants as level
 use Rattle.rq_world.specs.declared.waiting.Waiting.{Waiting}
 use Rattle.rq_world.specs.Node.{PendingRead, QueuedWrite, Node, log_entries, Turn, unchanged, says, replica_of}
 use Rattle.rq_world.specs.Reads.{begin, is_due, is_stale, limit_of}
-use Rattle.rq_world.specs.Rules.{max_command_bytes, max_queued_bytes, queue_capacity, max_batch, inserted, by_number, lost_all, waiting_numbers, is_expired, expired_waiting, expired_reads, live_waiting, live_reads, queued_is_expired, expired_queued, live_queue, tick, stays_on, steps_down, raft_turn, due_answers, not_due, reads, counts, restored, with_reads, receive, appends, appended_for, proposed, if_leads, immediate_answer, enqueued, if_not_full, if_not_too_large, enqueue, batch_waits, batch, batch_entry, flushed, flush, query, query_if_fresh, begun, read, said, answered, still_waiting, applied_command, applied_entry, apply, compact, write_command}
+use Rattle.rq_world.specs.Rules.{max_command_bytes, max_queued_bytes, queue_capacity, max_batch, inserted, by_number, lost_all, waiting_numbers, queued_numbers, is_expired, expired_waiting, expired_reads, live_waiting, live_reads, expired_queued, live_queue, tick, stays_on, steps_down, raft_turn, due_answers, not_due, reads, counts, with_reads, receive, appended_for, proposed, if_leads, enqueued, if_not_full, if_not_too_large, batch_waits, batch, flushed, flush, query, begun, read, said, answered, still_waiting, applied_command, applied_entry, apply, write_command}
 use Rattle.rq_world.specs.World.{Op, Write, Queue, Read, Act, Ask, Elect, Beat, Flush, Apply, Compact, Deliver, Tick, Idle, act}
+use Rattle.rq_world.specs.Asks.{times, all_waiting, asked_numbers, EachTurnKeepsAsks}
 use Rattle.rq_world.proofs.Tests.{if_case}
 
 -- ---- counts
@@ -74,9 +74,9 @@ module _ (x : ℕ) where
   in_act Tick = 0
   in_act Idle = 0
 
-  -- what waits behind a turn, and what it answers, is no more than this
-  abbrev pub IsWithin : ℕ → Turn → Type 0
-  IsWithin most t = in_node t.node + in_answers t.answers ≤ most
+  -- what waits behind a turn, and what it answers, is this together
+  abbrev pub Balances : ℕ → Turn → Type 0
+  Balances all t = in_node t.node + in_answers t.answers ≡ all
 
   -- ---- lists
 
@@ -138,8 +138,8 @@ module _ (x : ℕ) where
       let r = reads_list n.pending_reads in
       omega (arith, s, l, b, w, r)
 
-  raft_within : (n : Node) (t : RaftTurn LogEntry) → IsWithin (in_node n) (raft_turn n t)
-  raft_within n t = if_case (IsWithin (in_node n)) (is_leader n.raft.role && not (is_leader t.node.role)) (steps_down n t) (stays_on n t)
+  raft_balances : (n : Node) (t : RaftTurn LogEntry) → Balances (in_node n) (raft_turn n t)
+  raft_balances n t = if_case (Balances (in_node n)) (is_leader n.raft.role && not (is_leader t.node.role)) (steps_down n t) (stays_on n t)
       (λ _. let l = lost_same n.raft.term t.node.term n in omega (arith, l))
       (λ _. omega arith)
 
@@ -175,8 +175,8 @@ module _ (x : ℕ) where
       go h true false = omega (arith, h)
       go h false b = omega (arith, h)
 
-  tick_within : (n : Node) (now : ℕ) → IsWithin (in_node n) (tick n now)
-  tick_within n now =
+  tick_balances : (n : Node) (now : ℕ) → Balances (in_node n) (tick n now)
+  tick_balances n now =
       let s = sorted_same (expired_waiting now n.waiting ++ (expired_reads now n.pending_reads ++ expired_queued now n.queue)) in
       let b = answers_both (expired_waiting now n.waiting) (expired_reads now n.pending_reads ++ expired_queued now n.queue) in
       let c = answers_both (expired_reads now n.pending_reads) (expired_queued now n.queue) in
@@ -196,8 +196,8 @@ module _ (x : ℕ) where
       go h true = omega (arith, h)
       go h false = omega arith
 
-  applied_within : (n : Node) (command : Command) → IsWithin (in_node n) (applied_command n command)
-  applied_within n command = let w = applied_waiting (n.raft.applied + 1) (run n.replica command).1 n.waiting in omega (arith, w)
+  applied_balances : (n : Node) (command : Command) → Balances (in_node n) (applied_command n command)
+  applied_balances n command = let w = applied_waiting (n.raft.applied + 1) (run n.replica command).1 n.waiting in omega (arith, w)
 
   module _ (first : List Member) where
     -- ---- a batch
@@ -222,114 +222,172 @@ module _ (x : ℕ) where
         go h true = omega (arith, h)
         go h false = omega (arith, h)
 
-    reads_within : (most : ℕ) (t : Turn) → IsWithin most t → IsWithin most (reads first t)
-    reads_within most t within =
+    reads_balances : (most : ℕ) (t : Turn) → Balances most t → Balances most (reads first t)
+    reads_balances most t within =
         let b = answers_both t.answers (due_answers first t.node t.node.pending_reads) in
         let d = due_same t.node t.node.pending_reads in
         omega (arith, within, b, d)
 
     -- ---- packets
 
-    with_reads_within : (n : Node) (p : Packet LogEntry) (m : Message LogEntry) (t : Turn) → IsWithin (in_node n) t → IsWithin (in_node n) (with_reads first n p m t)
-    with_reads_within n p (VoteAsk i term) t within = within
-    with_reads_within n p (VoteSay granted) t within = within
-    with_reads_within n p (Append prev term commit probe es) t within = within
-    with_reads_within n p (AppendSay ok at probe) t within = if_case (IsWithin (in_node n)) (counts first n p at) (reads first t) t (λ _. reads_within (in_node n) t within) (λ _. within)
-    with_reads_within n p (Install probe list) t within = if_case (IsWithin (in_node n)) (nat_lt n.raft.applied t.node.raft.applied) (record t { node = record t.node { replica = replica_of first list } }) t (λ _. within) (λ _. within)
-    with_reads_within n p (InstallSay at probe) t within = if_case (IsWithin (in_node n)) (counts first n p at) (reads first t) t (λ _. reads_within (in_node n) t within) (λ _. within)
+    with_reads_balances : (n : Node) (p : Packet LogEntry) (m : Message LogEntry) (t : Turn) → Balances (in_node n) t → Balances (in_node n) (with_reads first n p m t)
+    with_reads_balances n p (VoteAsk i term) t within = within
+    with_reads_balances n p (VoteSay granted) t within = within
+    with_reads_balances n p (Append prev term commit probe es) t within = within
+    with_reads_balances n p (AppendSay ok at probe) t within = if_case (Balances (in_node n)) (counts first n p at) (reads first t) t (λ _. reads_balances (in_node n) t within) (λ _. within)
+    with_reads_balances n p (Install probe list) t within = if_case (Balances (in_node n)) (nat_lt n.raft.applied t.node.raft.applied) (record t { node = record t.node { replica = replica_of first list } }) t (λ _. within) (λ _. within)
+    with_reads_balances n p (InstallSay at probe) t within = if_case (Balances (in_node n)) (counts first n p at) (reads first t) t (λ _. reads_balances (in_node n) t within) (λ _. within)
 
-    quiet_within : (n : Node) → IsWithin (in_node n) (unchanged n)
-    quiet_within n = omega arith
+    quiet_balances : (n : Node) → Balances (in_node n) (unchanged n)
+    quiet_balances n = omega arith
 
-    receive_within : (n : Node) (moment : ℕ) (p : Option (Packet LogEntry)) → IsWithin (in_node n) (receive first n moment p)
-    receive_within n moment None = quiet_within n
-    receive_within n moment (Some p) = if_case (IsWithin (in_node n)) (bytes_eq p.to n.raft.id) (with_reads first n p p.message (raft_turn n (deliver.receive log_entries first n.raft moment p))) (unchanged n)
-        (λ _. with_reads_within n p p.message (raft_turn n (deliver.receive log_entries first n.raft moment p)) (raft_within n (deliver.receive log_entries first n.raft moment p)))
-        (λ _. quiet_within n)
+    receive_balances : (n : Node) (moment : ℕ) (p : Option (Packet LogEntry)) → Balances (in_node n) (receive first n moment p)
+    receive_balances n moment None = quiet_balances n
+    receive_balances n moment (Some p) = if_case (Balances (in_node n)) (bytes_eq p.to n.raft.id) (with_reads first n p p.message (raft_turn n (deliver.receive log_entries first n.raft moment p))) (unchanged n)
+        (λ _. with_reads_balances n p p.message (raft_turn n (deliver.receive log_entries first n.raft moment p)) (raft_balances n (deliver.receive log_entries first n.raft moment p)))
+        (λ _. quiet_balances n)
 
     -- ---- flush and apply
 
-    flushed_within : (n : Node) → IsWithin (in_node n) (flushed first n)
-    flushed_within n =
+    flushed_balances : (n : Node) → Balances (in_node n) (flushed first n)
+    flushed_balances n =
         let w = waiting_both n.waiting (batch_waits first (length n.raft.log + 1) 0 (batch first n)) in
         let b = batch_same (length n.raft.log + 1) 0 (batch first n) in
         let c = queue_cut max_batch n.queue in
         omega (arith, w, b, c)
 
-    flush_within : (n : Node) → IsWithin (in_node n) (flush first n)
-    flush_within n = if_case (IsWithin (in_node n)) (is_leader n.raft.role && nat_lt 0 (length n.queue)) (flushed first n) (unchanged n) (λ _. flushed_within n) (λ _. quiet_within n)
+    flush_balances : (n : Node) → Balances (in_node n) (flush first n)
+    flush_balances n = if_case (Balances (in_node n)) (is_leader n.raft.role && nat_lt 0 (length n.queue)) (flushed first n) (unchanged n) (λ _. flushed_balances n) (λ _. quiet_balances n)
 
-    entry_within : (n : Node) (entry : Option LogEntry) → IsWithin (in_node n) (applied_entry first n entry)
-    entry_within n None = quiet_within n
-    entry_within n (Some entry) = reads_within (in_node n) (applied_command n entry.command) (applied_within n entry.command)
+    entry_balances : (n : Node) (entry : Option LogEntry) → Balances (in_node n) (applied_entry first n entry)
+    entry_balances n None = quiet_balances n
+    entry_balances n (Some entry) = reads_balances (in_node n) (applied_command n entry.command) (applied_balances n entry.command)
 
-    apply_within : (n : Node) → IsWithin (in_node n) (apply first n)
-    apply_within n = if_case (IsWithin (in_node n)) (nat_lt n.raft.applied n.raft.commit) (applied_entry first n (slice_get n.raft.log n.raft.applied)) (unchanged n)
-        (λ _. entry_within n (slice_get n.raft.log n.raft.applied)) (λ _. quiet_within n)
+    apply_balances : (n : Node) → Balances (in_node n) (apply first n)
+    apply_balances n = if_case (Balances (in_node n)) (nat_lt n.raft.applied n.raft.commit) (applied_entry first n (slice_get n.raft.log n.raft.applied)) (unchanged n)
+        (λ _. entry_balances n (slice_get n.raft.log n.raft.applied)) (λ _. quiet_balances n)
 
     -- ---- asks
 
-    says_within : (n : Node) (number : ℕ) (say : Say) → IsWithin (in_node n + one x number) (says n number say)
-    says_within n number say = omega arith
+    says_balances : (n : Node) (number : ℕ) (say : Say) → Balances (in_node n + one x number) (says n number say)
+    says_balances n number say = omega arith
 
-    if_leads_within : (n : Node) (number : ℕ) (t : Turn) → IsWithin (in_node n + one x number) t → IsWithin (in_node n + one x number) (if_leads first n number t)
-    if_leads_within n number t within = if_case (IsWithin (in_node n + one x number)) (is_leader n.raft.role) t (says n number (Refused (NoLeader n.raft.term))) (λ _. within) (λ _. says_within n number (Refused (NoLeader n.raft.term)))
+    if_leads_balances : (n : Node) (number : ℕ) (t : Turn) → Balances (in_node n + one x number) t → Balances (in_node n + one x number) (if_leads first n number t)
+    if_leads_balances n number t within = if_case (Balances (in_node n + one x number)) (is_leader n.raft.role) t (says n number (Refused (NoLeader n.raft.term))) (λ _. within) (λ _. says_balances n number (Refused (NoLeader n.raft.term)))
 
-    appended_within : (n : Node) (number moment timeout : ℕ) (entry : LogEntry) → IsWithin (in_node n + one x number) (appended_for first n number moment timeout entry)
-    appended_within n number moment timeout entry =
+    appended_balances : (n : Node) (number moment timeout : ℕ) (entry : LogEntry) → Balances (in_node n + one x number) (appended_for first n number moment timeout entry)
+    appended_balances n number moment timeout entry =
         let w = waiting_both n.waiting (record { index = length n.raft.log + 1; number = number; asked = moment; timeout = timeout; position = 0; sequence = None } ∷ []) in
         omega (arith, w)
 
-    proposed_within : (n : Node) (number moment timeout : ℕ) (command : Command) (size : ℕ) → IsWithin (in_node n + one x number) (proposed first n number moment timeout command size)
-    proposed_within n number moment timeout command size = if_case (IsWithin (in_node n + one x number)) (nat_lt max_command_bytes size) (says n number (Refused (EntryTooLarge size))) (appended_for first n number moment timeout (record { term = n.raft.term; command = command }))
-        (λ _. says_within n number (Refused (EntryTooLarge size))) (λ _. appended_within n number moment timeout (record { term = n.raft.term; command = command }))
+    proposed_balances : (n : Node) (number moment timeout : ℕ) (command : Command) (size : ℕ) → Balances (in_node n + one x number) (proposed first n number moment timeout command size)
+    proposed_balances n number moment timeout command size = if_case (Balances (in_node n + one x number)) (nat_lt max_command_bytes size) (says n number (Refused (EntryTooLarge size))) (appended_for first n number moment timeout (record { term = n.raft.term; command = command }))
+        (λ _. says_balances n number (Refused (EntryTooLarge size))) (λ _. appended_balances n number moment timeout (record { term = n.raft.term; command = command }))
 
-    enqueued_within : (n : Node) (number moment timeout : ℕ) (list : Statements) (waits : Bool) → IsWithin (in_node n + one x number) (enqueued first n number moment timeout list waits)
-    enqueued_within n number moment timeout list true =
+    enqueued_balances : (n : Node) (number moment timeout : ℕ) (list : Statements) (waits : Bool) → Balances (in_node n + one x number) (enqueued first n number moment timeout list waits)
+    enqueued_balances n number moment timeout list true =
         let q = queue_both n.queue (record { sequence = n.last + 1; number = number; list = list; waits = true; asked = moment; timeout = timeout } ∷ []) in
         omega (arith, q)
-    enqueued_within n number moment timeout list false =
+    enqueued_balances n number moment timeout list false =
         let q = queue_both n.queue (record { sequence = n.last + 1; number = number; list = list; waits = false; asked = moment; timeout = timeout } ∷ []) in
         omega (arith, q)
 
-    full_within : (n : Node) (number : ℕ) (t : Turn) → IsWithin (in_node n + one x number) t → IsWithin (in_node n + one x number) (if_not_full first n number t)
-    full_within n number t within = if_case (IsWithin (in_node n + one x number)) (nat_le queue_capacity (length n.queue)) (says n number (Refused (QueueFull (length n.queue)))) t (λ _. says_within n number (Refused (QueueFull (length n.queue)))) (λ _. within)
+    full_balances : (n : Node) (number : ℕ) (t : Turn) → Balances (in_node n + one x number) t → Balances (in_node n + one x number) (if_not_full first n number t)
+    full_balances n number t within = if_case (Balances (in_node n + one x number)) (nat_le queue_capacity (length n.queue)) (says n number (Refused (QueueFull (length n.queue)))) t (λ _. says_balances n number (Refused (QueueFull (length n.queue)))) (λ _. within)
 
-    large_within : (n : Node) (number size : ℕ) (t : Turn) → IsWithin (in_node n + one x number) t → IsWithin (in_node n + one x number) (if_not_too_large first n number size t)
-    large_within n number size t within = if_case (IsWithin (in_node n + one x number)) (nat_lt max_queued_bytes size) (says n number (Refused (QueuedTooLarge size))) t (λ _. says_within n number (Refused (QueuedTooLarge size))) (λ _. within)
+    large_balances : (n : Node) (number size : ℕ) (t : Turn) → Balances (in_node n + one x number) t → Balances (in_node n + one x number) (if_not_too_large first n number size t)
+    large_balances n number size t within = if_case (Balances (in_node n + one x number)) (nat_lt max_queued_bytes size) (says n number (Refused (QueuedTooLarge size))) t (λ _. says_balances n number (Refused (QueuedTooLarge size))) (λ _. within)
 
-    begun_within : (n : Node) (number moment timeout : ℕ) (items : List Item) (t : RaftTurn LogEntry) → IsWithin (in_node n + one x number) (begun first n number moment timeout items t)
-    begun_within n number moment timeout items t =
+    begun_balances : (n : Node) (number moment timeout : ℕ) (items : List Item) (t : RaftTurn LogEntry) → Balances (in_node n + one x number) (begun first n number moment timeout items t)
+    begun_balances n number moment timeout items t =
         let r = reads_both n.pending_reads (record { pass = Rattle.rq_world.specs.Reads.pass_of n.raft number; items = items; asked = moment; timeout = timeout } ∷ []) in
         omega (arith, r)
 
-    read_within : (n : Node) (number moment timeout : ℕ) (items : List Item) (l : Level) (limit : Option ℕ) → IsWithin (in_node n + one x number) (read first n number moment timeout items l limit)
-    read_within n number moment timeout items level.None limit = if_case (IsWithin (in_node n + one x number)) (is_stale n.raft limit moment) (says n number (Refused (Stale n.raft.contact moment (limit_of limit)))) (query first n number items)
-        (λ _. says_within n number (Refused (Stale n.raft.contact moment (limit_of limit)))) (λ _. says_within n number (Results (answer n.replica items)))
-    read_within n number moment timeout items level.Weak limit = if_leads_within n number (query first n number items) (says_within n number (Results (answer n.replica items)))
-    read_within n number moment timeout items level.Linearizable limit = if_leads_within n number (reads first (begun first n number moment timeout items (begin first n.raft)))
-        (reads_within (in_node n + one x number) (begun first n number moment timeout items (begin first n.raft)) (begun_within n number moment timeout items (begin first n.raft)))
-    read_within n number moment timeout items level.Strong limit = if_leads_within n number (proposed first n number moment timeout (StrongQuery items) (length (command_bytes (StrongQuery items))))
-        (proposed_within n number moment timeout (StrongQuery items) (length (command_bytes (StrongQuery items))))
+    read_balances : (n : Node) (number moment timeout : ℕ) (items : List Item) (l : Level) (limit : Option ℕ) → Balances (in_node n + one x number) (read first n number moment timeout items l limit)
+    read_balances n number moment timeout items level.None limit = if_case (Balances (in_node n + one x number)) (is_stale n.raft limit moment) (says n number (Refused (Stale n.raft.contact moment (limit_of limit)))) (query first n number items)
+        (λ _. says_balances n number (Refused (Stale n.raft.contact moment (limit_of limit)))) (λ _. says_balances n number (Results (answer n.replica items)))
+    read_balances n number moment timeout items level.Weak limit = if_leads_balances n number (query first n number items) (says_balances n number (Results (answer n.replica items)))
+    read_balances n number moment timeout items level.Linearizable limit = if_leads_balances n number (reads first (begun first n number moment timeout items (begin first n.raft)))
+        (reads_balances (in_node n + one x number) (begun first n number moment timeout items (begin first n.raft)) (begun_balances n number moment timeout items (begin first n.raft)))
+    read_balances n number moment timeout items level.Strong limit = if_leads_balances n number (proposed first n number moment timeout (StrongQuery items) (length (command_bytes (StrongQuery items))))
+        (proposed_balances n number moment timeout (StrongQuery items) (length (command_bytes (StrongQuery items))))
 
-    asked_within : (n : Node) (number moment timeout : ℕ) (op : Op) → IsWithin (in_node n + one x number) (Rattle.rq_world.specs.World.asked first n number moment timeout op)
-    asked_within n number moment timeout (Write list mixed) = if_leads_within n number (proposed first n number moment timeout (write_command list mixed) (length (command_bytes (write_command list mixed)))) (proposed_within n number moment timeout (write_command list mixed) (length (command_bytes (write_command list mixed))))
-    asked_within n number moment timeout (Queue list waits) = if_leads_within n number (if_not_too_large first n number (length (command_bytes (Execute list))) (if_not_full first n number (enqueued first n number moment timeout list waits)))
-        (large_within n number (length (command_bytes (Execute list))) (if_not_full first n number (enqueued first n number moment timeout list waits)) (full_within n number (enqueued first n number moment timeout list waits) (enqueued_within n number moment timeout list waits)))
-    asked_within n number moment timeout (Read items l limit) = read_within n number moment timeout items l limit
+    asked_balances : (n : Node) (number moment timeout : ℕ) (op : Op) → Balances (in_node n + one x number) (Rattle.rq_world.specs.World.asked first n number moment timeout op)
+    asked_balances n number moment timeout (Write list mixed) = if_leads_balances n number (proposed first n number moment timeout (write_command list mixed) (length (command_bytes (write_command list mixed)))) (proposed_balances n number moment timeout (write_command list mixed) (length (command_bytes (write_command list mixed))))
+    asked_balances n number moment timeout (Queue list waits) = if_leads_balances n number (if_not_too_large first n number (length (command_bytes (Execute list))) (if_not_full first n number (enqueued first n number moment timeout list waits)))
+        (large_balances n number (length (command_bytes (Execute list))) (if_not_full first n number (enqueued first n number moment timeout list waits)) (full_balances n number (enqueued first n number moment timeout list waits) (enqueued_balances n number moment timeout list waits)))
+    asked_balances n number moment timeout (Read items l limit) = read_balances n number moment timeout items l limit
 
     -- ---- each act
 
-    none_more : (n : Node) (t : Turn) → IsWithin (in_node n) t → IsWithin (in_node n + 0) t
+    none_more : (n : Node) (t : Turn) → Balances (in_node n) t → Balances (in_node n + 0) t
     none_more n t within = omega (arith, within)
 
-    pub act_within : (sent : List (Packet LogEntry)) (moment : ℕ) (n : Node) (a : Act) → IsWithin (in_node n + in_act a) (act first sent moment n a)
-    act_within sent moment n (Ask number timeout op) = asked_within n number moment timeout op
-    act_within sent moment n Elect = none_more n (raft_turn n (vote.elect log_entries first n.raft)) (raft_within n (vote.elect log_entries first n.raft))
-    act_within sent moment n Beat = none_more n (raft_turn n (lead.beat log_entries first n.raft)) (raft_within n (lead.beat log_entries first n.raft))
-    act_within sent moment n Flush = none_more n (flush first n) (flush_within n)
-    act_within sent moment n Apply = none_more n (apply first n) (apply_within n)
-    act_within sent moment n Compact = none_more n (raft_turn n (install.compact n.raft)) (raft_within n (install.compact n.raft))
-    act_within sent moment n (Deliver k) = none_more n (receive first n moment (slice_get sent k)) (receive_within n moment (slice_get sent k))
-    act_within sent moment n Tick = none_more n (tick n moment) (tick_within n moment)
-    act_within sent moment n Idle = none_more n (unchanged n) (quiet_within n)
+    pub act_balances : (sent : List (Packet LogEntry)) (moment : ℕ) (n : Node) (a : Act) → Balances (in_node n + in_act a) (act first sent moment n a)
+    act_balances sent moment n (Ask number timeout op) = asked_balances n number moment timeout op
+    act_balances sent moment n Elect = none_more n (raft_turn n (vote.elect log_entries first n.raft)) (raft_balances n (vote.elect log_entries first n.raft))
+    act_balances sent moment n Beat = none_more n (raft_turn n (lead.beat log_entries first n.raft)) (raft_balances n (lead.beat log_entries first n.raft))
+    act_balances sent moment n Flush = none_more n (flush first n) (flush_balances n)
+    act_balances sent moment n Apply = none_more n (apply first n) (apply_balances n)
+    act_balances sent moment n Compact = none_more n (raft_turn n (install.compact n.raft)) (raft_balances n (install.compact n.raft))
+    act_balances sent moment n (Deliver k) = none_more n (receive first n moment (slice_get sent k)) (receive_balances n moment (slice_get sent k))
+    act_balances sent moment n Tick = none_more n (tick n moment) (tick_balances n moment)
+    act_balances sent moment n Idle = none_more n (unchanged n) (quiet_balances n)
+
+-- ---- counts of lists of numbers
+
+module _ (x : ℕ) where
+  times_list : (ks : List ℕ) → times x ks ≡ in_list x ks
+  unfolding one
+  times_list [] = refl
+  times_list (k ∷ ks) = by (times_list ks) (nat_eq k x)
+    where
+      by : times x ks ≡ in_list x ks → (b : Bool) → (if b then suc (times x ks) else times x ks) ≡ cond b 1 0 + in_list x ks
+      by h true = omega (arith, h)
+      by h false = omega (arith, h)
+
+  queued_list : (qs : List QueuedWrite) → in_list x (queued_numbers qs) ≡ in_queue x qs
+  queued_list [] = refl
+  queued_list (q ∷ qs) = by (queued_list qs) q.waits
+    where
+      by : in_list x (queued_numbers qs) ≡ in_queue x qs → (b : Bool) → in_list x (if b then q.number ∷ queued_numbers qs else queued_numbers qs) ≡ if_waits x b q.number + in_queue x qs
+      by h true = omega (arith, h)
+      by h false = omega (arith, h)
+
+  node_list : (n : Node) → times x (all_waiting n) ≡ in_node x n
+  node_list n =
+      let t = times_list (all_waiting n) in
+      let a = list_both x (waiting_numbers n) (queued_numbers n.queue) in
+      let b = list_both x (map (λ (w : Waiting). w.number) n.waiting) (map (λ (r : PendingRead). r.pass.id) n.pending_reads) in
+      let w = waiting_list x n.waiting in
+      let r = reads_list x n.pending_reads in
+      let q = queued_list n.queue in
+      omega (arith, t, a, b, w, r, q)
+
+  answers_list : (given : List Answer) → times x (map (λ (a : Answer). a.number) given) ≡ in_answers x given
+  answers_list given = times_list (map (λ (a : Answer). a.number) given) ∙ by given
+    where
+      by : (l : List Answer) → in_list x (map (λ (a : Answer). a.number) l) ≡ in_answers x l
+      by [] = refl
+      by (a ∷ l) = let h = by l in omega (arith, h)
+
+  act_list : (a : Act) → times x (asked_numbers a) ≡ in_act x a
+  act_list (Ask number timeout op) = let t = times_list (number ∷ []) in omega (arith, t)
+  act_list Elect = refl
+  act_list Beat = refl
+  act_list Flush = refl
+  act_list Apply = refl
+  act_list Compact = refl
+  act_list (Deliver k) = refl
+  act_list Tick = refl
+  act_list Idle = refl
+
+pub each_turn_keeps_asks : (first : List Member) → EachTurnKeepsAsks first
+each_turn_keeps_asks first sent moment n a x =
+    let t = act first sent moment n a in
+    let before = node_list x n in
+    let after = node_list x t.node in
+    let given = answers_list x t.answers in
+    let asked = act_list x a in
+    let b = act_balances x first sent moment n a in
+    omega (arith, before, after, given, asked, b)

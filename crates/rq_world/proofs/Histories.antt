@@ -17,7 +17,7 @@ use Rattle.rq_request.specs.declared.ask.Level.TheVariants as level
 use Rattle.rq_world.specs.Node.{members, commands, replica_of}
 use Rattle.rq_world.specs.Rules.{write_command}
 use Rattle.rq_world.specs.World.{Op, Write, Queue, Read, Note, Asked, Answered, at_place}
-use Rattle.rq_world.specs.Promise.{IsPrefix, op_of, IsOutcome, IsValue, IsInBatch, IsReadRight, IsResults, IsQueued, IsRight}
+use Rattle.rq_world.specs.Promise.{IsPrefix, op_of, IsOutcome, IsValue, IsInBatch, IsResults, IsQueued, IsRight}
 use Rattle.rq_world.proofs.Prefixes.{begins_get, begins_take_same, get_within}
 
 -- ---- notes

@@ -18,7 +18,7 @@ use Rattle.rq_world.proofs.Promises.{sound}
 use Rattle.rq_world.proofs.Passes.{Known}
 use Rattle.rq_world.proofs.Covering.{Acted, Still, kind, t, runs_next, who_runs, notes_silent}
 use Rattle.rq_world.proofs.Apart.{new_number}
-use Rattle.rq_world.proofs.Counting.{one, in_answers, in_node, in_act, act_within}
+use Rattle.rq_world.proofs.Counting.{one, in_answers, in_node, in_act, act_balances}
 
 -- ---- counts of the book
 
@@ -202,7 +202,7 @@ module _ (g : Given) (known : Known g) where
         omega (arith, is, b, c, n, l)
 
     within : in_node x (t g known run e a).node + in_answers x (t g known run e a).answers ≤ in_node x a.node + in_act x a.act
-    within = act_within x g.first (world g.first run).sent (world g.first run).moment a.node a.act
+    within = let b = act_balances x g.first (world g.first run).sent (world g.first run).moment a.node a.act in omega (arith, b)
 
     -- the number isn't asked now, or it is, and wasn't before
     is_asked : (b : Act) → a.act ≡ b → (in_act x b ≡ 0) ⊎ ((op_of (book run) x ≡ None) × (in_act x b ≡ 1))

@@ -1,6 +1,5 @@
 -- Each acknowledged write has a place of its own.
 use Rattle.std.proofs.Common.{◌≡◌, ◌⊎◌, ℕ, ◌+◌, ◌-◌, List, [], ◌∷◌, ◌++◌, length, slice_get, true, Option, Some, None, refl, sym, ◌∙◌, ap, subst, inl, inr, ⊎_elim, arith}
-use Rattle.rq_statement.specs.declared.item.Item.{Item}
 use Rattle.rq_request.specs.declared.say.Say.{Say}
 use Rattle.rq_history.specs.History.{NodeId}
 use Rattle.rq_history.specs.Laws.{LaterEntriesCover}
@@ -8,7 +7,6 @@ use Rattle.rq_raft.specs.Entries.{entry_view}
 use Rattle.rq_raft.specs.declared.role.Role.TheVariants.{Follower, Leader}
 use Rattle.rq_world.specs.declared.log_entry.LogEntry.{LogEntry}
 use Rattle.rq_statement.specs.declared.command.Command.{Command}
-use Rattle.rq_statement.specs.declared.command.Command.TheVariants.{Execute}
 use Rattle.rq_statement.specs.Statements.{Statements}
 use Rattle.rq_world.specs.Rules.{write_command}
 use Rattle.rq_world.specs.declared.waiting.Waiting.{Waiting}

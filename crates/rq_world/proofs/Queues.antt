@@ -3,7 +3,6 @@ use Rattle.std.proofs.Common.{◌≡◌, ◌⊎◌, ◌<◌, ℕ, zero, suc, ◌
 use Rattle.std.specs.Prelude.{nat_lt}
 use Rattle.std.proofs.lemmas.List.{length-append}
 use Rattle.rq_statement.specs.Statements.{Statements}
-use Rattle.rq_statement.specs.declared.item.Item.{Item}
 use Rattle.rq_history.specs.History.{NodeId}
 use Rattle.rq_raft.specs.declared.role.Role.TheVariants.{Follower}
 use Rattle.rq_raft.specs.Node.{is_leader, Persistent, StoredRecord, persistent_after}

@@ -8,3 +8,4 @@ pub mod Passes
 pub mod Covers
 pub mod Appends
 pub mod Answers
+pub mod Asks

@@ -4,6 +4,7 @@ ghost use Rattle.std.specs.Prelude.{List};
 ghost use Rattle.rq_wire.specs.declared.config.Member.{Member};
 ghost use Rattle.rq_world.specs.Answers.{EachAskIsAnsweredOnce, EachAnswerFollowsItsAsk};
 ghost use Rattle.rq_world.specs.Appends.{EachAskAppendsOnce, EachWriteHasItsPlace};
+ghost use Rattle.rq_world.specs.Asks.{EachTurnKeepsAsks};
 ghost use Rattle.rq_world.specs.Covers.{EachReadCovers};
 ghost use Rattle.rq_world.specs.Laws.{AreSafe};
 ghost use Rattle.rq_world.specs.Passes.{PassCovers, PassCoversAcknowledged};
@@ -141,3 +142,9 @@ pub fn each_ask_is_answered_once()
     rq_history::laws::leaders_do_not_stand_again::<LogEntry>();
     rq_history::laws::leaders_cover::<LogEntry>();
 }
+
+/// No turn forgets an ask: what waits behind it and what it answers are, together, what waited before and what it was asked.
+#[tactic(auto, using(crate::proofs::Counting::each_turn_keeps_asks))]
+pub fn each_turn_keeps_asks()
+    ensures { (first : List Member) → EachTurnKeepsAsks first }
+{}
