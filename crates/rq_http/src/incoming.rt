@@ -14,6 +14,7 @@ use crate::place::{Front, Place};
 use crate::scanning::scan;
 use httparse::spans::Span;
 use rq_outside::Source;
+use std::alloc::AllocError;
 
 /// The longest head, in bytes.
 pub const MAX_HEAD: usize = 16_384;
@@ -47,6 +48,19 @@ pub enum Next {
     End,
 }
 
+/// Adds the bytes. A read often brings a single one, which is put without a call for copying any number.
+fn add(held: &mut Vec<u8>, bytes: &[u8]) -> Result<(), AllocError>
+    ensures ok { OnOk result (held.new.items ≡ held.old.items ++ bytes.now) }
+    ensures err { OnErr result (held.new.items ≡ held.old.items) }
+{
+    if bytes.len() == 1 {
+        held.push(bytes[0])?;
+        Ok(())
+    } else {
+        held.extend_from_slice(bytes)
+    }
+}
+
 /// Holds what the source gives in one read, behind what is held, and answers how many bytes.
 pub fn read_more<S: Source>(
     held: &mut Vec<u8>,
@@ -61,7 +75,7 @@ pub fn read_more<S: Source>(
     ensures cause { IsErrOf result ReadFailed → Rose (S.faults source.old) (S.faults source.new) }
 {
     match source.read(buffer) {
-        Ok(count) => match held.extend_from_slice(&buffer[..count]) {
+        Ok(count) => match add(held, &buffer[..count]) {
             Ok(()) => Ok(count),
             Err(_) => Err(ReadError::NoMemory),
         },
