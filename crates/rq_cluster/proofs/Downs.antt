@@ -148,25 +148,25 @@ module _ {D F : Type 0} (told : Bool) (means : D → DiskMeaning) where
     has_failed : (HasStruck (arm_of broke) from.armed → ⊥) → (arm_of broke ≡ Struck → ⊥) → DeviceRose means mid broke
         → GoesDown start new (event_act rule asked) s (numbers node.state.waiting ++ asked) (s.failures + 1)
     has_failed not_struck no_stop device =
-        let shown = node_shown told means start old from s refines node runs in
-        let n = shown.n in
-        let turn : rule node.state ≡ rule n = ap rule shown.state in
+        let refined = node_shown told means start old from s refines node runs in
+        let n = refined.n in
+        let turn : rule node.state ≡ rule n = ap rule refined.state in
         let same_pair = untouched not_struck in
         record {
           course = failing;
           next = record (gone_down s n (persistent_of n) (rule n).records asked) { failures = s.failures + 1 };
-          is = turn_failed s n rule asked broken.first broken.more shown.stand (ap (λ (t : Turn). t.records) (sym turn) ∙ broken.some);
+          is = turn_failed s n rule asked broken.first broken.more refined.stand (ap (λ (t : Turn). t.records) (sym turn) ∙ broken.some);
           id = refl;
           armed = refl;
-          lost = ap (λ (m : Node). s.lost ++ (numbers m.waiting ++ asked)) (sym shown.state);
+          lost = ap (λ (m : Node). s.lost ++ (numbers m.waiting ++ asked)) (sym refined.state);
           counted = refl;
           kept = persistent_of n;
           rest = (rule n).records;
           stand = refl;
           stands = subst (λ (p : DiskPair D F). Stands told means p s.id (persistent_of n) (rule n).records) (sym same_pair)
-              (subst (λ (i : List ℕ). Stands told means broke i (persistent_of n) (rule n).records) shown.named
-              (subst (λ (m : Node). Stands told means broke m.id (persistent_of m) (rule m).records) shown.state broken.stands));
-          readable = subst (λ (m : Node). CanBeRead (persistent_of m) (rule m).records) shown.state readable;
+              (subst (λ (i : List ℕ). Stands told means broke i (persistent_of n) (rule n).records) refined.named
+              (subst (λ (m : Node). Stands told means broke m.id (persistent_of m) (rule m).records) refined.state broken.stands));
+          readable = subst (λ (m : Node). CanBeRead (persistent_of m) (rule m).records) refined.state readable;
           rises = subst (λ (p : DiskPair D F). Rises told means (s.failures + 1) start p) (sym same_pair) (rises_more told means s.failures start mid broke was later device);
           arm = λ struck. no_stop (ap arm_of (sym same_pair) ∙ struck);
         }
@@ -175,25 +175,25 @@ module _ {D F : Type 0} (told : Bool) (means : D → DiskMeaning) where
     has_struck : (a : Armed) → s.armed ≡ Some a → HasStruck (arm_of broke) from.armed → arm_of broke ≡ Struck
         → GoesDown start new (event_act rule asked) s (numbers node.state.waiting ++ asked) s.failures
     has_struck a is struck stopped =
-        let shown = node_shown told means start old from s refines node runs in
-        let n = shown.n in
-        let turn : rule node.state ≡ rule n = ap rule shown.state in
+        let refined = node_shown told means start old from s refines node runs in
+        let n = refined.n in
+        let turn : rule node.state ≡ rule n = ap rule refined.state in
         let crash = crashed struck in
         let short : a.calls < 4 * length (rule node.state).records = subst (λ (m : Arm). IsShort (4 * length (rule node.state).records) m) (lets_some told means mid s.armed lets a is) (broken.struck stopped) in
         let short_n : a.calls < needed (rule n).records = subst (λ (t : Turn). a.calls < 4 * length t.records) turn short in
         let not_le : nat_le (needed (rule n).records) a.calls ≡ false = grind (arith, nat_tests, short_n) in
         let blocked : passes s.armed (needed (rule n).records) ≡ false = ap (λ (o : Option Armed). passes o (needed (rule n).records)) is ∙ not_le in
-        let stood = subst (λ (i : List ℕ). Stands told means broke i (persistent_of n) (rule n).records) shown.named
-        (subst (λ (m : Node). Stands told means broke m.id (persistent_of m) (rule m).records) shown.state broken.stands) in
+        let stood = subst (λ (i : List ℕ). Stands told means broke i (persistent_of n) (rule n).records) refined.named
+        (subst (λ (m : Node). Stands told means broke m.id (persistent_of m) (rule m).records) refined.state broken.stands) in
         let settle = settled broke new s.id (persistent_of n) (rule n).records refines.tells crash stood in
-        let reads = subst (λ (m : Node). CanBeRead (persistent_of m) (rule m).records) shown.state readable in
+        let reads = subst (λ (m : Node). CanBeRead (persistent_of m) (rule m).records) refined.state readable in
         record {
           course = striking settle.0;
           next = gone_down s n (persistent_after (persistent_of n) (take settle.0 (rule n).records)) [] asked;
-          is = turn_struck s n rule asked broken.first broken.more settle.0 shown.stand (ap (λ (t : Turn). t.records) (sym turn) ∙ broken.some) blocked;
+          is = turn_struck s n rule asked broken.first broken.more settle.0 refined.stand (ap (λ (t : Turn). t.records) (sym turn) ∙ broken.some) blocked;
           id = refl;
           armed = refl;
-          lost = ap (λ (m : Node). s.lost ++ (numbers m.waiting ++ asked)) (sym shown.state);
+          lost = ap (λ (m : Node). s.lost ++ (numbers m.waiting ++ asked)) (sym refined.state);
           counted = refl;
           kept = persistent_after (persistent_of n) (take settle.0 (rule n).records);
           rest = [];
@@ -297,12 +297,12 @@ module _ {D F : Type 0} (told : Bool) (means : D → DiskMeaning) where
   pub turn_stands : LogsStand F means → (start old : DiskPair D F) (from : Host) (s : Server) (refines : RefinesServer told means start old from s) (new : DiskPair D F) (node after : RunningNode)
       → from.node ≡ Some node → KeepsPersistent node.state after.state → IsOpen told means new after → NoFewer told means old new → ServerStands told means start new (Some s)
   turn_stands law start old from s refines new node after runs kept opened later =
-      let shown = node_shown told means start old from s refines node runs in
-      let stood : Stands told means new s.id (persistent_of shown.n) [] = subst (λ (i : List ℕ). Stands told means new i (persistent_of shown.n) []) shown.named
-      (subst (λ (m : Node). Stands told means new m.id (persistent_of m) []) shown.state
+      let refined = node_shown told means start old from s refines node runs in
+      let stood : Stands told means new s.id (persistent_of refined.n) [] = subst (λ (i : List ℕ). Stands told means new i (persistent_of refined.n) []) refined.named
+      (subst (λ (m : Node). Stands told means new m.id (persistent_of m) []) refined.state
       (subst (λ (k : Persistent). Stands told means new node.state.id k []) kept.persistent
       (subst (λ (i : List ℕ). Stands told means new i (persistent_of after.state) []) kept.id (open_stands told means law new after opened)))) in
-      (subst (λ (st : Stand). StandsAs told means new s.id st) (sym shown.stand) stood, rises_on told means s.failures start old new refines.rises later)
+      (subst (λ (st : Stand). StandsAs told means new s.id st) (sym refined.stand) stood, rises_on told means s.failures start old new refines.rises later)
 
   -- only the arming has changed
   pub server_same : (start old new : DiskPair D F) (s : Server) → SameDisks old new → ServerStands told means start old (Some s) → ServerStands told means start new (Some s)

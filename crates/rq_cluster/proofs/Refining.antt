@@ -62,7 +62,7 @@ module _ {D F : Type 0} (told : Bool) (means : D → DiskMeaning) where
       others = refines.others;
     }
 
-  -- what is shown of the one server
+  -- what is refined of the one server
   shown_host : (start pairs : List (DiskPair D F)) (world : World) (c : Cluster) → Refines told means start pairs world c → (before now : DiskPair D F) × RefinesHost told means before now world.host c.server
   shown_host start pairs world c refines =
       let before = first_of_nine start refines.began in

@@ -144,8 +144,8 @@ module _ {D F : Type 0} (told : Bool) (means : D → DiskMeaning) where
     there : c.server ≡ Some s
     refines : RefinesServer told means start pair host s
 
-  server_shown : (start pair : DiskPair D F) (world : World) (host : Host) (c : Cluster) → world.host ≡ Some host → RefinesCluster told means start pair world c → IsServer start pair host c
-  server_shown start pair world host c is shown = by c.server refl (subst (λ (o : Option Host). RefinesHost told means start pair o c.server) is shown.1)
+  server_refined : (start pair : DiskPair D F) (world : World) (host : Host) (c : Cluster) → world.host ≡ Some host → RefinesCluster told means start pair world c → IsServer start pair host c
+  server_refined start pair world host c is refined = by c.server refl (subst (λ (o : Option Host). RefinesHost told means start pair o c.server) is refined.1)
     where
       by : (o : Option Server) → c.server ≡ o → RefinesHost told means start pair (Some host) o → IsServer start pair host c
       by (Some s) there refines = record { s = s; there = there; refines = refines }
@@ -161,20 +161,20 @@ module _ {D F : Type 0} (told : Bool) (means : D → DiskMeaning) where
       (d : IsDone line act items asks old from host) (is : from.host ≡ Some host) where
     pub line_does : (to : World) (after : Host) (before text : List ℕ) → to.host ≡ Some after → to.asks ≡ asks from.asks → Goes told means act old new host after before text
         → DoesLine told means line old new from to before text
-    line_does to after before text there counts goes start c shown =
-        let server = server_shown start old from host c is shown in
+    line_does to after before text there counts goes start c refined =
+        let server = server_refined start old from host c is refined in
         let went = goes start server.s server.refines in
         let next : Cluster = record c { server = Some (act went.0 server.s).0; asks = asks c.asks } in (
           next,
           (act went.0 server.s).1,
-          (items, went.0, d.read, d.does start c server.s went.0 server.there server.refines shown.0),
+          (items, went.0, d.read, d.does start c server.s went.0 server.there server.refines refined.0),
           went.2,
-          (ap asks shown.0 ∙ sym counts, subst (λ (o : Option Host). RefinesHost told means start new o (Some (act went.0 server.s).0)) (sym there) went.1),
+          (ap asks refined.0 ∙ sym counts, subst (λ (o : Option Host). RefinesHost told means start new o (Some (act went.0 server.s).0)) (sym there) went.1),
         )
 
     pub line_breaks : BreaksOff told means act old new host → BreaksLine told means line old new from
-    line_breaks off start c shown =
-        let server = server_shown start old from host c is shown in
+    line_breaks off start c refined =
+        let server = server_refined start old from host c is refined in
         let broke = off start server.s server.refines in
         by server broke.0 broke.1 broke.2
       where
@@ -184,7 +184,7 @@ module _ {D F : Type 0} (told : Bool) (means : D → DiskMeaning) where
             (c, inl refl, subst (λ (o : Option Server). ServerStands told means start new o) (ap (λ (r : Server). Some r) same ∙ sym server.there) stands)
         by server reached (inr (course, goes)) stands = (
           record c { server = Some (act course server.s).0; asks = asks c.asks },
-          inr (inr ((act course server.s).1, (items, course, d.read, d.does start c server.s course server.there server.refines shown.0))),
+          inr (inr ((act course server.s).1, (items, course, d.read, d.does start c server.s course server.there server.refines refined.0))),
           subst (λ (r : Server). ServerStands told means start new (Some r)) goes stands,
         )
 
@@ -314,8 +314,8 @@ module _ {D F : Type 0} (told : Bool) (means : D → DiskMeaning) where
     -- ---- where it can't be done
 
     pub put_outside : (a : Action) → PutsNothing a → IsOutsideHere told means (At host.id a) old (with_host host asks)
-    put_outside (Execute body) none = λ start c shown. ap (option_and_then (λ (t : List (List ℕ)). event_at whole (record c { asks = c.asks + 1 }) host.id (λ n. execute n (c.asks + 1) []) ((c.asks + 1) ∷ []))) none
-    put_outside (Query body) none = λ start c shown. ap (option_and_then (λ (t : List (List ℕ)). event_at whole (record c { asks = c.asks + 1 }) host.id (λ n. query n (c.asks + 1) []) ((c.asks + 1) ∷ []))) none
+    put_outside (Execute body) none = λ start c refined. ap (option_and_then (λ (t : List (List ℕ)). event_at whole (record c { asks = c.asks + 1 }) host.id (λ n. execute n (c.asks + 1) []) ((c.asks + 1) ∷ []))) none
+    put_outside (Query body) none = λ start c refined. ap (option_and_then (λ (t : List (List ℕ)). event_at whole (record c { asks = c.asks + 1 }) host.id (λ n. query n (c.asks + 1) []) ((c.asks + 1) ∷ []))) none
     put_outside Elect nothing = absurd nothing
     put_outside Apply nothing = absurd nothing
     put_outside Stop nothing = absurd nothing
@@ -328,42 +328,42 @@ module _ {D F : Type 0} (told : Bool) (means : D → DiskMeaning) where
     cannot a given is outside = subst (λ (b : Action). IsOutsideHere told means (At host.id b) old (with_host host asks)) (sym is) outside
 
     pub stop_outside : (given : Action) → given ≡ Stop → is_some host.node ≡ false → IsOutsideHere told means (At host.id given) old (with_host host asks)
-    stop_outside given is down = cannot Stop given is (λ start c shown.
-        let server = server_shown start old (with_host host asks) host c refl shown in
+    stop_outside given is down = cannot Stop given is (λ start c refined.
+        let server = server_refined start old (with_host host asks) host c refl refined in
         let at = down_shown told means start old host server.s server.refines (none_of host.node down) in
         at_none c server.s host.id stops server.there (ap (λ (st : Stand). stops (record server.s { stand = st })) at.stand))
 
     pub arm_outside : (given : Action) (calls pick : ℕ) → given ≡ StopWithin calls pick → is_some host.node ≡ false → IsOutsideHere told means (At host.id given) old (with_host host asks)
-    arm_outside given calls pick is down = cannot (StopWithin calls pick) given is (λ start c shown.
-        let server = server_shown start old (with_host host asks) host c refl shown in
+    arm_outside given calls pick is down = cannot (StopWithin calls pick) given is (λ start c refined.
+        let server = server_refined start old (with_host host asks) host c refl refined in
         let at = down_shown told means start old host server.s server.refines (none_of host.node down) in
         at_none c server.s host.id (arms calls pick) server.there (ap (λ (st : Stand). arms calls pick (record server.s { stand = st })) at.stand))
 
     pub start_outside : (given : Action) → given ≡ Start → is_some host.node ≡ true → IsOutsideHere told means (At host.id given) old (with_host host asks)
-    start_outside given is running = cannot Start given is (λ start c shown.
-        let server = server_shown start old (with_host host asks) host c refl shown in
+    start_outside given is running = cannot Start given is (λ start c refined.
+        let server = server_refined start old (with_host host asks) host c refl refined in
         let node = some_of host.node running in
         let at = node_shown told means start old host server.s server.refines node.0 node.1 in
         at_none c server.s host.id (starts whole) server.there (ap (λ (st : Stand). starts whole (record server.s { stand = st })) at.stand))
 
   -- no such server is there
   pub nobody_outside : (id : List ℕ) (a : Action) (old : DiskPair D F) (from : World) → from.host ≡ None → IsOutsideHere told means (At id a) old from
-  nobody_outside id a old from none start c shown = none_at c id a (by c.server refl (subst (λ (o : Option Host). RefinesHost told means start old o c.server) none shown.1))
+  nobody_outside id a old from none start c refined = none_at c id a (by c.server refl (subst (λ (o : Option Host). RefinesHost told means start old o c.server) none refined.1))
     where
       by : (o : Option Server) → c.server ≡ o → RefinesHost told means start old None o → c.server ≡ None
       by None there refines = there
       by (Some s) there nothing = absurd nothing
 
   pub other_outside : (id : List ℕ) (a : Action) (old : DiskPair D F) (from : World) (host : Host) → from.host ≡ Some host → bytes_eq host.id id ≡ false → IsOutsideHere told means (At id a) old from
-  other_outside id a old from host is other start c shown =
-      let server = server_shown start old from host c is shown in
+  other_outside id a old from host is other start c refined =
+      let server = server_refined start old from host c is refined in
       other_at c server.s id a server.there (ap (λ (i : List ℕ). bytes_eq i id) server.refines.id ∙ other)
 
   -- a line that is skipped
   pub skips : (pair : DiskPair D F) (world : World) (line : Line) (text : List ℕ) → line ≡ Skip → DoesLine told means line pair pair world world text text
   skips pair world line text is =
       subst (λ (l : Line). DoesLine told means l pair pair world world text text) (sym is)
-      (λ start c shown. (c, [], ([], whole, tt, refl), sym (append-nil text), shown))
+      (λ start c refined. (c, [], ([], whole, tt, refl), sym (append-nil text), refined))
 
 -- ---- what the parts of the code give
 

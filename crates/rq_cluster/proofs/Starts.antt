@@ -180,24 +180,24 @@ module _ {D F : Type 0} (told : Bool) (means : D → DiskMeaning) where
   pub stops_down : LogsStand F means → (start old : DiskPair D F) (from : Host) (s : Server) (refines : RefinesServer told means start old from s) (new : DiskPair D F) (node : RunningNode)
       → from.node ≡ Some node → Crashed told means old new → AreReadable node.state.log → GoesDown told means start new stop_act s (numbers node.state.waiting) s.failures
   stops_down law start old from s refines new node runs crash log =
-      let shown = node_shown told means start old from s refines node runs in
-      let n = shown.n in
-      let stood : Stands told means old s.id (persistent_of n) [] = subst (λ (i : List ℕ). Stands told means old i (persistent_of n) []) shown.named
-      (subst (λ (m : Node). Stands told means old m.id (persistent_of m) []) shown.state (open_stands told means law old node shown.opened)) in
+      let refined = node_shown told means start old from s refines node runs in
+      let n = refined.n in
+      let stood : Stands told means old s.id (persistent_of n) [] = subst (λ (i : List ℕ). Stands told means old i (persistent_of n) []) refined.named
+      (subst (λ (m : Node). Stands told means old m.id (persistent_of m) []) refined.state (open_stands told means law old node refined.opened)) in
       let settle = settled told means old new s.id (persistent_of n) [] refines.tells crash stood in
       record {
         course = record { fault = NoFault; stands = 0 };
         next = gone_down s n (persistent_of n) [] [];
-        is = ap (λ (st : Stand). stop_act (record { fault = NoFault; stands = 0 }) (record s { stand = st })) shown.stand;
+        is = ap (λ (st : Stand). stop_act (record { fault = NoFault; stands = 0 }) (record s { stand = st })) refined.stand;
         id = refl;
         armed = refl;
-        lost = ap (λ (l : List ℕ). s.lost ++ l) (append-nil (numbers n.waiting) ∙ ap (λ (m : Node). numbers m.waiting) (sym shown.state));
+        lost = ap (λ (l : List ℕ). s.lost ++ l) (append-nil (numbers n.waiting) ∙ ap (λ (m : Node). numbers m.waiting) (sym refined.state));
         counted = refl;
         kept = persistent_of n;
         rest = [];
         stand = refl;
         stands = subst (λ (d : List StoredRecord). Stands told means new s.id (persistent_after (persistent_of n) d) []) (take_none settle.0) settle.1;
-        readable = (subst (λ (m : Node). AreReadable m.log) shown.state log, all_none);
+        readable = (subst (λ (m : Node). AreReadable m.log) refined.state log, all_none);
         rises = rises_on told means s.failures start old new refines.rises (fewer_crashed told means old new crash);
         arm = λ stop. (let e : Off ≡ Struck = sym crash.arm ∙ stop in absurd (cc));
       }
@@ -211,7 +211,7 @@ module _ {D F : Type 0} (told : Bool) (means : D → DiskMeaning) where
       → SameDisks old new → from.node ≡ Some node → to ≡ record from { armed = Some arming } → ((arm_of old ≡ Struck → ⊥) → arm_of new ≡ Passes arming.calls) → IsOpen told means new node
       → (bytes : List ℕ) → (course : Course) × RefinesServer told means start new to (arm_act arming.calls arming.pick course s).0 × (bytes ≡ bytes ++ (arm_act arming.calls arming.pick course s).1)
   arms_server start old from to s refines new node arming same runs is armed opened bytes =
-      let shown = node_shown told means start old from s refines node runs in
+      let refined = node_shown told means start old from s refines node runs in
       let next : Server = (arm_act arming.calls arming.pick (record { fault = NoFault; stands = 0 }) s).0 in
       let not_struck : arm_of old ≡ Struck → ⊥ = unstruck s.armed refines.arm in
       let refines_next : RefinesServer told means start new (record from { armed = Some arming }) next = record {
@@ -223,7 +223,7 @@ module _ {D F : Type 0} (told : Bool) (means : D → DiskMeaning) where
         arm = armed not_struck;
         rises = rises_on told means s.failures start old new refines.rises (fewer_same told means old new same);
         stand = subst (λ (o : Option RunningNode). RefinesStand told means new s.id o s.stand) (sym runs)
-            (subst (λ (st : Stand). RefinesStand told means new s.id (Some node) st) (sym shown.stand) (shown.state, shown.named, opened));
+            (subst (λ (st : Stand). RefinesStand told means new s.id (Some node) st) (sym refined.stand) (refined.state, refined.named, opened));
         spent = λ none. (let e = sym runs ∙ none in absurd (cc));
       } in
       (record { fault = NoFault; stands = 0 }, subst (λ (h : Host). RefinesServer told means start new h next) (sym is) refines_next, sym (append-nil bytes))

@@ -129,18 +129,18 @@ module _ {D F : Type 0} (told : Bool) (means : D → DiskMeaning) where
         (opened : IsOpen told means new after) (calls : UsedCalls (4 * count) (arm_of mid) (arm_of new)) (text_is : text ≡ before ++ answers_text (rule node.state).answers) where
       pub turn_goes : (course : Course) × RefinesServer told means start new to (event rule asked course s).0 × (text ≡ before ++ (event rule asked course s).1)
       turn_goes =
-          let shown = node_shown node runs in
-          let n = shown.n in
-          let turn : rule node.state ≡ rule n = ap rule shown.state in
+          let refined = node_shown node runs in
+          let n = refined.n in
+          let turn : rule node.state ≡ rule n = ap rule refined.state in
           let k : 4 * count ≡ needed (rule n).records = ap (λ (c : ℕ). 4 * c) (count_is ∙ ap (λ (t : Turn). length t.records) turn) in
           let used : UsedCalls (needed (rule n).records) (arm_of mid) (arm_of new) = subst (λ (c : ℕ). UsedCalls c (arm_of mid) (arm_of new)) k calls in
-          let done = turn_done s n rule asked shown.stand (lets_passes mid new s.armed (needed (rule n).records) lets used) in
+          let done = turn_done s n rule asked refined.stand (lets_passes mid new s.armed (needed (rule n).records) lets used) in
           let next : Server = record s { stand = Running (rule n).node; armed = left_after s.armed (needed (rule n).records) } in
           let is_armed : left_after s.armed (needed (rule n).records) ≡ armed_of to.armed =
           ap (λ (c : ℕ). left_after s.armed c) (sym k) ∙ ap (λ (a : Option Armed). left_after a (4 * count)) refines.armed ∙ sym armed in
           let there : RefinesStand told means new s.id to.node (Running (rule n).node) =
           subst (λ (o : Option RunningNode). RefinesStand told means new s.id o (Running (rule n).node)) (sym runs_on)
-          (state ∙ ap (λ (t : Turn). t.node) turn, subst (λ (m : Node). (rule m).node.id ≡ m.id) shown.state named ∙ shown.named, opened) in
+          (state ∙ ap (λ (t : Turn). t.node) turn, subst (λ (m : Node). (rule m).node.id ≡ m.id) refined.state named ∙ refined.named, opened) in
           let refines_next : RefinesServer told means start new to next = record {
             tells = refines.tells;
             id = refines.id ∙ sym id;

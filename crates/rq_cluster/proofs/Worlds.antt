@@ -67,7 +67,7 @@ module _ {D F : Type 0} (told : Bool) (means : D → DiskMeaning) where
 
   no_server : (start pair : DiskPair D F) (world : World) (c : Cluster) → world.host ≡ None → RefinesCluster told means start pair world c
       → (c.server ≡ None) × IsTrue told × IsNew told means pair × Rises told means 0 start pair
-  no_server start pair world c is shown = by c.server refl (subst (λ (o : Option Host). RefinesHost told means start pair o c.server) is shown.1)
+  no_server start pair world c is refined = by c.server refl (subst (λ (o : Option Host). RefinesHost told means start pair o c.server) is refined.1)
     where
       by : (o : Option Server) → c.server ≡ o → RefinesHost told means start pair None o → (c.server ≡ None) × IsTrue told × IsNew told means pair × Rises told means 0 start pair
       by None there (tells, new, rises) = (there, tells, new, rises)
@@ -78,20 +78,20 @@ module _ {D F : Type 0} (told : Bool) (means : D → DiskMeaning) where
   module _ (old new : DiskPair D F) (from : World) (host : Host) (id : List ℕ) (is : from.host ≡ None) (h : IsFresh host id) where
     pub found_does : (to : World) (after : Host) (before text : List ℕ) → to.host ≡ Some after → to.asks ≡ from.asks → Goes told means start_act old new host after before text
         → DoesLine told means (ClusterLine id) old new from to before text
-    found_does to after before text there counts goes start c shown =
-        let none = no_server start old from c is shown in
+    found_does to after before text there counts goes start c refined =
+        let none = no_server start old from c is refined in
         let went = goes start (new_server id) (new_refines start old host id none.1 none.2 none.3 h) in
         let next : Cluster = record c { server = Some (start_act went.0 (new_server id)).0 } in (
           next,
           (start_act went.0 (new_server id)).1,
           ([], went.0, tt, founds went.0 c id none.0),
           went.2,
-          (shown.0 ∙ sym counts, subst (λ (o : Option Host). RefinesHost told means start new o (Some (start_act went.0 (new_server id)).0)) (sym there) went.1),
+          (refined.0 ∙ sym counts, subst (λ (o : Option Host). RefinesHost told means start new o (Some (start_act went.0 (new_server id)).0)) (sym there) went.1),
         )
 
     pub found_breaks : BreaksOff told means start_act old new host → BreaksLine told means (ClusterLine id) old new from
-    found_breaks off start c shown =
-        let none = no_server start old from c is shown in
+    found_breaks off start c refined =
+        let none = no_server start old from c is refined in
         let broke = off start (new_server id) (new_refines start old host id none.1 none.2 none.3 h) in
         by none.0 broke.0 broke.1 broke.2
       where
@@ -112,12 +112,12 @@ module _ {D F : Type 0} (told : Bool) (means : D → DiskMeaning) where
 
   module _ (stands : (start pair : DiskPair D F) (host : Option Host) (server : Option Server) → RefinesHost told means start pair host server → ServerStands told means start pair server) where
     pub breaks_untouched : (line : Line) (old new : DiskPair D F) (from : World) → new ≡ old → BreaksLine told means line old new from
-    breaks_untouched line old new from same start c shown =
-        (c, inl refl, subst (λ (p : DiskPair D F). ServerStands told means start p c.server) (sym same) (stands start old from.host c.server shown.1))
+    breaks_untouched line old new from same start c refined =
+        (c, inl refl, subst (λ (p : DiskPair D F). ServerStands told means start p c.server) (sym same) (stands start old from.host c.server refined.1))
 
     pub breaks_unread : (bytes : List ℕ) (old new : DiskPair D F) (from : World) → new ≡ old → Breaks told means bytes old new from
-    breaks_unread bytes old new from same start c shown =
-        (c, inl refl, subst (λ (p : DiskPair D F). ServerStands told means start p c.server) (sym same) (stands start old from.host c.server shown.1))
+    breaks_unread bytes old new from same start c refined =
+        (c, inl refl, subst (λ (p : DiskPair D F). ServerStands told means start p c.server) (sym same) (stands start old from.host c.server refined.1))
 
 -- ---- the bytes of a line
 
@@ -143,13 +143,13 @@ leads_steps c next bytes written line is (items, course, read, does) = (
 
 module _ {D F : Type 0} (told : Bool) (means : D → DiskMeaning) (bytes : List ℕ) (line : Line) (is : line_of bytes ≡ Some line) (old new : DiskPair D F) (from : World) where
   pub does_bytes : (to : World) (before text : List ℕ) → DoesLine told means line old new from to before text → Does told means bytes old new from to before text
-  does_bytes to before text does start c shown =
-      let d = does start c shown in
+  does_bytes to before text does start c refined =
+      let d = does start c refined in
       (d.0, d.1, leads_steps c d.0 bytes d.1 line is d.2, d.3, d.4)
 
   pub breaks_bytes : BreaksLine told means line old new from → Breaks told means bytes old new from
-  breaks_bytes breaks start c shown =
-      let b = breaks start c shown in
+  breaks_bytes breaks start c refined =
+      let b = breaks start c refined in
       (b.0, by b.0 b.1, b.2)
     where
       by : (reached : Cluster) → ((reached ≡ c) ⊎ (named c line ≡ Some reached) ⊎ ((written : List ℕ) × Leads c line written reached)) → MayReach c bytes reached
@@ -158,7 +158,7 @@ module _ {D F : Type 0} (told : Bool) (means : D → DiskMeaning) (bytes : List 
       by reached (inr (inr (written, leads))) = inr (inr (written, leads_steps c reached bytes written line is leads))
 
   pub outside_bytes : IsOutsideHere told means line old from → (start : DiskPair D F) (c : Cluster) → RefinesCluster told means start old from c → IsOutside c bytes
-  outside_bytes outside start c shown = outside_by c bytes line is (outside start c shown)
+  outside_bytes outside start c refined = outside_by c bytes line is (outside start c refined)
 
 pub on_ok_map : {T E : Type 0} (r : Result T E) (P Q : Type 0) → (P → Q) → OnOk r P → OnOk r Q
 on_ok_map (Ok x) P Q f holds = f holds

@@ -11,7 +11,7 @@ use Rattle.rq_node.specs.Node.{Node, Turn, persistent_of}
 use Rattle.rq_node.specs.declared.event.Event.{Event}
 use Rattle.rq_node.specs.Events.{rule, asked}
 use Rattle.rq_script.specs.Cluster.{Stand, Running, Down, Server, Course, happens_at, opens, gone_down, numbers}
-use Rattle.rq_script.specs.ScriptText.{answers_text, down_text, show_text, show_down_text}
+use Rattle.rq_script.specs.ScriptText.{down_text, show_text, show_down_text}
 use Rattle.rq_cluster.specs.declared.arming.Arming.{Arming}
 use Rattle.rq_cluster.specs.declared.host.Host.{Host}
 

@@ -1,4 +1,4 @@
-// What the pairs of a shown cluster stand for.
+// What the pairs of a refined cluster stand for.
 ghost use Rattle.std.specs.Prelude.{List};
 ghost use Rattle.rq_outside.specs.declared.pair.DiskPair.{DiskPair as ThePair};
 ghost use Rattle.rq_script.specs.Cluster.{Cluster};

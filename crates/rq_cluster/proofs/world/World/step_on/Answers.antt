@@ -24,5 +24,5 @@ returns-in-Some-clause-broken g c = λ err.
     breaks_bytes g.D.Disk.told g.D.Disk.means c.args.line.now (line_read c.in-Some.line) is c.args.disks.now c.do_line.new.disks c.args.self.now (c.do_line.ensures.broken err)
 
 pub returns-in-None-clause-outside : goal.returns-in-None-clause-outside
-returns-in-None-clause-outside g c = λ _ start cluster shown.
+returns-in-None-clause-outside g c = λ _ start cluster refined.
     outside_unread cluster c.args.line.now (of_none c.script_line.result _ (λ l. line_of c.args.line.now ≡ Some (line_read l)) c.in-None.is c.script_line.ensures.read)
