@@ -9,7 +9,7 @@ use Rattle.rq_raft.specs.declared.role.Role.TheVariants.{Follower, Candidate, Le
 use Rattle.rq_raft.specs.Entries.{Entries}
 use Rattle.rq_raft.specs.declared.peer.Peer.{Peer}
 use Rattle.rq_raft.specs.Node.{RaftNode, Message, VoteAsk, VoteSay, Append, AppendSay, Install, InstallSay, Packet, RaftTurn, unchanged, say, is_leader, is_candidate, one_of}
-use Rattle.rq_raft.specs.Lead.{voters_now, send, committed, appended, is_idle, propose, beat, leading, replied, takes_reply, append_reply}
+use Rattle.rq_raft.specs.Lead.{voters_now, send, committed, appended, is_idle, followed, propose, beat, leading, replied, takes_reply, append_reply}
 use Rattle.rq_raft.specs.Vote.{higher_term, becomes_candidate, is_elected, vote_asks, campaigns, elect, grants, vote_request, counted, counts, vote_reply}
 use Rattle.rq_raft.specs.Append.{matching_count, corrected_term, corrected_entries, becomes_follower, with_commit, spliced, append_missing, has_prev, append_in_term, append}
 use Rattle.rq_raft.specs.Deliver.{is_far, by_message, receive}
@@ -56,7 +56,7 @@ module _ {E : Type 0} (entries : Entries E) (first : List Member) where
   beats n = if_case (On n) (is_leader n.role) (send entries first (λ p. true) (unchanged n)) (unchanged n) (λ e. (refl, λ a b. (refl, refl))) (λ e. quiet_on n)
 
   proposes : (n : RaftNode E) (e : E) → n.role ≡ Leader → Appends entries first n e (propose entries first n e)
-  proposes n e r = if_case (Appends entries first n e) (is_leader n.role) (committed entries first (send entries first (λ (p : Peer). is_idle p.flight) (appended n e))) (unchanged n)
+  proposes n e r = if_case (Appends entries first n e) (is_leader n.role) (committed entries first (send entries first (λ (p : Peer). is_idle p.flight) (appended (followed entries first n e) e))) (unchanged n)
       (λ q. (refl, r, refl, refl)) (λ q. absurd (not_leader n q r))
 
   -- ---- a packet at a leader of its term, or of a later one

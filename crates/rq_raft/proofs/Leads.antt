@@ -14,7 +14,7 @@ use Rattle.rq_raft.specs.declared.role.Role.TheVariants.{Follower, Candidate, Le
 use Rattle.rq_raft.specs.Entries.{entry_view, voters, configuration}
 use Rattle.rq_raft.specs.declared.peer.Peer.{Peer}
 use Rattle.rq_raft.specs.Node.{RaftNode, Packet, RaftTurn, unchanged, is_leader, one_of, has_peer, with_peer}
-use Rattle.rq_raft.specs.Lead.{voters_now, is_quorum, send, holds, may_commit, committed, appended, is_idle, propose, beat, becomes_leader, leading, after_ok, after_no, same_flight, wants_more, waits_for, replied, takes_reply, append_reply}
+use Rattle.rq_raft.specs.Lead.{voters_now, is_quorum, send, holds, may_commit, committed, appended, is_idle, peer_for, tables_after, followed, propose, beat, becomes_leader, leading, after_ok, after_no, same_flight, wants_more, waits_for, replied, takes_reply, append_reply}
 use Rattle.rq_raft.specs.Deliver.{applied_next}
 use Rattle.rq_raft.specs.Truth.{role_of, history_node, IsCopied, HasCopy, PacketsAreTrue, IsTrueOf, AllTrue}
 use Rattle.rq_raft.proofs.Tests.{if_case, and_true, eq_true, le_true, lt_true, greatest_is, id_true}
@@ -147,15 +147,37 @@ module _ {E : Type 0} (g : Given E) where
         stores = inr (inl (length n.log + 1, e ∷ [], refl, splice_is n.log e, refl));
       }
 
+  with_peers : (h : History E) (i : NodeId) (n : RaftNode E) (ps : List Peer) → FitsIn g h i n → AllTrue h n.term n.log ps → FitsIn g h i (record n { peers = ps })
+  with_peers h i n ps f a = record { id = f.id; is = f.is; done = f.done; based = f.based; votes = f.votes; peers = λ q. a; first = f.first }
+
+  -- tables that follow a configuration are true
+  for_true : (h : History E) (term : ℕ) (log : List E) (next : ℕ) (ps : List Peer) (v : NodeId) → next ≤ length log + 1 → AllTrue h term log ps → IsTrueOf h term log (peer_for next ps v)
+  for_true h term log next [] v le a = record { copied = inl refl; next = le }
+  for_true h term log next (p ∷ ps) v le a = if_case (IsTrueOf h term log) (bytes_eq p.id v) p (peer_for next ps v) (λ e. a.0) (λ e. for_true h term log next ps v le a.1)
+
+  all_for_true : (h : History E) (term : ℕ) (log : List E) (next : ℕ) (ps : List Peer) (ms : List Member) → next ≤ length log + 1 → AllTrue h term log ps → AllTrue h term log (map (λ (m : Member). peer_for next ps m.id) ms)
+  all_for_true h term log next ps [] le a = tt
+  all_for_true h term log next ps (m ∷ ms) le a = (for_true h term log next ps m.id le a, all_for_true h term log next ps ms le a)
+
+  tables_true : (h : History E) (term : ℕ) (log : List E) (id : NodeId) (ps : List Peer) (o : Option (List Member)) → AllTrue h term log ps → AllTrue h term log (tables_after id (length log + 1) ps o)
+  tables_true h term log id ps None a = a
+  tables_true h term log id ps (Some members) a = all_for_true h term log (length log + 1) ps (filter (λ (m : Member). not (bytes_eq m.id id)) members) (omega arith) a
+
   -- who holds the entry: it is of the node's term, and a configuration only where it may be appended
   pub propose_ok : (h : History E) (i : NodeId) (n : RaftNode E) (e : E) → g.entries.term_of e ≡ n.term → (is_given ((entry_view g.entries).voters_of e) ≡ true → MayChange (entry_view g.entries) voters_of (history_node n) e) → Run g h → FitsIn g h i n
       → RestOk g h i n (propose g.entries g.first n e)
   propose_ok h i n e term may l f = go n.role refl
     where
-      go : (r : Role) → n.role ≡ r → RestOk g h i n (cond (is_leader r) (committed g.entries g.first (send g.entries g.first (λ (p : Peer). is_idle p.flight) (appended n e))) (unchanged n))
-      go Follower e = quiet_rest g h i n l f
-      go Candidate e = quiet_rest g h i n l f
-      go Leader q = pushed_ok h i n e (λ (p : Peer). is_idle p.flight) term may l f q
+      m : RaftNode E
+      m = followed g.entries g.first n e
+
+      go : (r : Role) → n.role ≡ r → RestOk g h i n (cond (is_leader r) (committed g.entries g.first (send g.entries g.first (λ (p : Peer). is_idle p.flight) (appended m e))) (unchanged n))
+      go Follower q = quiet_rest g h i n l f
+      go Candidate q = quiet_rest g h i n l f
+      go Leader q =
+          let s = stay g h i m l (with_peers h i n m.peers f (tables_true h n.term n.log n.id n.peers (g.entries.members_of e) (f.peers q))) in
+          rest_after g h i n m (committed g.entries g.first (send g.entries g.first (λ (p : Peer). is_idle p.flight) (appended m e))) s refl refl refl refl
+          (pushed_ok s.after i m e (λ (p : Peer). is_idle p.flight) term may s.lawful s.fits q)
 
   fresh_true : (h : History E) (term next : ℕ) (log : List E) (ms : List Member) → next ≤ length log + 1 → AllTrue h term log (map (λ (m : Member). record { id = m.id; next = next; matched = 0; acked = 0; flight = None }) ms)
   fresh_true h term next log [] le = tt
@@ -231,9 +253,6 @@ module _ {E : Type 0} (g : Given E) where
       let led : Led h k.who n.term k.leader = record { was = k.led.was; leads = k.led.leads; in_term = k.led.in_term ∙ t } in
       let same = led_same g h l k.who i n.term k.leader (history_node n) led (leads_shown g h i n f r) at k.fits fits in
       inr (fits, record { holder = k.held.holder; was = k.held.was; in_term = k.held.in_term ∙ t; same = k.held.same ∙ same })
-
-  with_peers : (h : History E) (i : NodeId) (n : RaftNode E) (ps : List Peer) → FitsIn g h i n → AllTrue h n.term n.log ps → FitsIn g h i (record n { peers = ps })
-  with_peers h i n ps f a = record { id = f.id; is = f.is; done = f.done; based = f.based; votes = f.votes; peers = λ q. a; first = f.first }
 
   replied_ok : (h : History E) (i : NodeId) (n : RaftNode E) (p : Packet E) (ok : Bool) (at probe : ℕ) → Run g h → FitsIn g h i n → n.role ≡ Leader → p.term ≡ n.term → at ≤ length n.log
       → (ok ≡ true → (at ≡ 0) ⊎ HasCopy h p at) → RestOk g h i n (replied g.entries g.first n p.from ok at probe)

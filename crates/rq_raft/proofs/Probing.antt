@@ -9,7 +9,7 @@ use Rattle.rq_raft.specs.declared.role.Role.TheVariants.{Follower, Candidate, Le
 use Rattle.rq_raft.specs.Entries.{Entries, entry_view, configuration}
 use Rattle.rq_raft.specs.declared.peer.Peer.{Peer}
 use Rattle.rq_raft.specs.Node.{RaftNode, Message, VoteAsk, VoteSay, Append, AppendSay, Install, InstallSay, Packet, RaftTurn, unchanged, packet, say, is_leader, is_candidate, one_of, has_peer, with_peer}
-use Rattle.rq_raft.specs.Lead.{voters_now, sends, in_flight, probe_after, append_for, message_for, send, committed, appended, is_idle, propose, beat, becomes_leader, leading, after_ok, after_no, wants_more, waits_for, replied, takes_reply, append_reply}
+use Rattle.rq_raft.specs.Lead.{voters_now, sends, in_flight, probe_after, append_for, message_for, send, committed, appended, is_idle, peer_for, tables_after, followed, propose, beat, becomes_leader, leading, after_ok, after_no, wants_more, waits_for, replied, takes_reply, append_reply}
 use Rattle.rq_raft.specs.Vote.{higher_term, becomes_candidate, is_elected, vote_asks, campaigns, elect, grants, vote_request, counted, counts, vote_reply}
 use Rattle.rq_raft.specs.Install.{replaced, installs, install}
 use Rattle.rq_raft.specs.Append.{matching_count, corrected_term, corrected_entries, becomes_follower, with_commit, spliced, append_missing, has_prev, append_in_term, append}
@@ -48,6 +48,18 @@ module _ {E : Type 0} (entries : Entries E) (first : List Member) where
     heard_fresh : (next : ℕ) (ms : List Member) → AllHeard heard mark (map (λ (m : Member). record { id = m.id; next = next; matched = 0; acked = 0; flight = None }) ms)
     heard_fresh next [] = tt
     heard_fresh next (m ∷ ms) = (λ lt. absurd (omega (arith, lt)), heard_fresh next ms)
+
+    heard_for : (next : ℕ) (ps : List Peer) (v : NodeId) → AllHeard heard mark ps → mark < (peer_for next ps v).acked → heard (peer_for next ps v).id
+    heard_for next [] v a = λ lt. absurd (omega (arith, lt))
+    heard_for next (p ∷ ps) v a = if_case (λ (q : Peer). mark < q.acked → heard q.id) (bytes_eq p.id v) p (peer_for next ps v) (λ e. a.0) (λ e. heard_for next ps v a.1)
+
+    heard_tables : (next : ℕ) (ps : List Peer) (ms : List Member) → AllHeard heard mark ps → AllHeard heard mark (map (λ (m : Member). peer_for next ps m.id) ms)
+    heard_tables next ps [] a = tt
+    heard_tables next ps (m ∷ ms) a = (heard_for next ps m.id a, heard_tables next ps ms a)
+
+    heard_after : (id : NodeId) (next : ℕ) (ps : List Peer) (o : Option (List Member)) → AllHeard heard mark ps → AllHeard heard mark (tables_after id next ps o)
+    heard_after id next ps None a = a
+    heard_after id next ps (Some members) a = heard_tables next ps (filter (λ (m : Member). not (bytes_eq m.id id)) members) a
 
     heard_with : (change : Peer → Peer) (v : NodeId) (ps : List Peer) → ((p : Peer) → p.id ≡ v → (mark < p.acked → heard p.id) → mark < (change p).acked → heard (change p).id) → AllHeard heard mark ps → AllHeard heard mark (with_peer change v ps)
     heard_with change v [] c a = tt
@@ -151,10 +163,13 @@ module _ {E : Type 0} (entries : Entries E) (first : List Member) where
     propose_ok : (n : RaftNode E) (e : E) → Old n → Ok n None (propose entries first n e)
     propose_ok n e old = go n.role refl
       where
-        go : (r : Role) → n.role ≡ r → Ok n None (cond (is_leader r) (committed entries first (send entries first (λ (p : Peer). is_idle p.flight) (appended n e))) (unchanged n))
+        m : RaftNode E
+        m = followed entries first n e
+
+        go : (r : Role) → n.role ≡ r → Ok n None (cond (is_leader r) (committed entries first (send entries first (λ (p : Peer). is_idle p.flight) (appended m e))) (unchanged n))
         go Follower q = quiet_ok n None old
         go Candidate q = quiet_ok n None old
-        go Leader q = committed_same n None (send entries first (λ (p : Peer). is_idle p.flight) (appended n e)) (sends_ok n n None (λ (p : Peer). is_idle p.flight) (appended n e) refl refl q refl (old q))
+        go Leader q = committed_same n None (send entries first (λ (p : Peer). is_idle p.flight) (appended m e)) (sends_ok n n None (λ (p : Peer). is_idle p.flight) (appended m e) refl refl q refl (heard_after n.id (length n.log + 1) n.peers (entries.members_of e) (old q)))
 
     -- ---- a packet
 

@@ -1,5 +1,5 @@
 -- A packet comes in, or an entry is applied: docs/RAFT.md, "Far", "Deliver", "Apply".
-use Rattle.std.specs.Prelude.{ℕ, ◌+◌, ◌^◌, nat_lt, nat_le, if◌then◌else◌, Bool, true, false, List, length}
+use Rattle.std.specs.Prelude.{ℕ, suc, zero, ◌+◌, ◌^◌, nat_lt, nat_le, if◌then◌else◌, Bool, true, false, List, length}
 use Rattle.rq_wire.specs.declared.config.Member.{Member}
 use Rattle.rq_raft.specs.Entries.{Entries}
 use Rattle.rq_raft.specs.Node.{RaftNode, Message, VoteAsk, VoteSay, Append, AppendSay, Install, InstallSay, Packet, RaftTurn, unchanged}
@@ -20,6 +20,11 @@ is_far (InstallSay at probe) = false
 -- Apply: one entry more, where it is committed
 abbrev pub applied_next : {E : Type 0} → RaftNode E → RaftNode E
 applied_next n = if nat_lt n.applied n.commit then record n { applied = n.applied + 1 } else n
+
+-- so many, as far as entries are committed
+abbrev pub applied_times : {E : Type 0} → ℕ → RaftNode E → RaftNode E
+applied_times zero n = n
+applied_times (suc k) n = applied_next (applied_times k n)
 
 module _ {E : Type 0} (entries : Entries E) (first : List Member) where
   abbrev pub by_message : RaftNode E → ℕ → Packet E → Message E → RaftTurn E

@@ -44,6 +44,20 @@ appended n e = record { node = record n { log = n.log ++ e ∷ [] }; stored = Sp
 abbrev pub tables : NodeId → ℕ → List Member → List Peer
 tables id next members = map (λ (m : Member). record { id = m.id; next = next; matched = 0; acked = 0; flight = None }) (filter (λ (m : Member). not (bytes_eq m.id id)) members)
 
+-- what is known of a member: its table, or, where there is none, nothing yet
+abbrev pub peer_for : ℕ → List Peer → NodeId → Peer
+peer_for next [] m = record { id = m; next = next; matched = 0; acked = 0; flight = None }
+peer_for next (p ∷ ps) m = if bytes_eq p.id m then p else peer_for next ps m
+
+-- the tables of a leader that appends a configuration: who stays keeps its table, and who leaves has none
+abbrev pub tables_for : NodeId → ℕ → List Peer → List Member → List Peer
+tables_for id next peers members = map (λ (m : Member). peer_for next peers m.id) (filter (λ (m : Member). not (bytes_eq m.id id)) members)
+
+-- that one appends an entry with these members, or with none
+abbrev pub tables_after : NodeId → ℕ → List Peer → Option (List Member) → List Peer
+tables_after id next peers None = peers
+tables_after id next peers (Some members) = tables_for id next peers members
+
 -- this probe is in flight
 abbrev pub same_flight : Option ℕ → ℕ → Bool
 same_flight None probe = false
@@ -112,9 +126,13 @@ module _ {E : Type 0} (entries : Entries E) (first : List Member) where
 
   -- ---- rules
 
+  -- a leader's tables follow a configuration that it appends; the next index of who is new is the entry's
+  abbrev pub followed : RaftNode E → E → RaftNode E
+  followed n e = record n { peers = tables_after n.id (length n.log + 1) n.peers (entries.members_of e) }
+
   -- Propose: an entry of its term is appended at a leader, and goes to each peer that waits for none
   abbrev pub propose : RaftNode E → E → RaftTurn E
-  propose n e = if is_leader n.role then committed (send (λ (p : Peer). is_idle p.flight) (appended n e)) else unchanged n
+  propose n e = if is_leader n.role then committed (send (λ (p : Peer). is_idle p.flight) (appended (followed n e) e)) else unchanged n
 
   -- Beat: a leader sends to all
   abbrev pub beat : RaftNode E → RaftTurn E
