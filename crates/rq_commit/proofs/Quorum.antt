@@ -1,16 +1,16 @@
 -- The greatest index that a quorum holds.
-use Rattle.std.proofs.Common.{◌≡◌, ◌≢◌, ◌⊎◌, ⊎_elim, ℕ, suc, zero, ◌+◌, ◌-◌, ◌*◌, ◌<◌, ◌≤◌, ◌&&◌, max, Bool, true, false, cond, if◌then◌else◌, nat_lt, List, [], ◌∷◌, length, refl, sym, ap, subst, ◌∙◌, arith}
+use Rattle.std.proofs.Common.{◌≡◌, ◌≢◌, ◌⊎◌, ⊎_elim, ℕ, suc, zero, ◌+◌, ◌-◌, ◌*◌, ◌<◌, ◌≤◌, ◌&&◌, max, Bool, true, false, cond, if◌then◌else◌, nat_lt, List, [], ◌∷◌, length, refl, subst, arith}
 use Rattle.std.specs.Prelude.{◌==◌, nat_le, bytes_eq, fold, count_by}
 use Rattle.std.proofs.lemmas.Bool.Decides.{nat_tests}
-use Rattle.rq_wire.specs.declared.config.Member.{Member}
 use Rattle.rq_history.specs.History.{NodeId, term_at}
 use Rattle.rq_history.specs.Configurations.{greatest}
 use Rattle.rq_raft.specs.declared.peer.Peer.{Peer}
 use Rattle.rq_raft.specs.Entries.{Entries, entry_view}
-use Rattle.rq_raft.specs.Node.{RaftNode, has_peer}
-use Rattle.rq_raft.specs.Lead.{holds, is_quorum, voters_now, may_commit}
-use Rattle.rq_log.specs.Tally.{lower_of, lower_match}
-use Rattle.rq_core.proofs.Choices.{if_case}
+use Rattle.rq_raft.specs.Node.{has_peer}
+use Rattle.rq_raft.specs.Lead.{is_quorum}
+use Rattle.rq_log.specs.Tally.{holds_in, lower_of, lower_match}
+use Rattle.rq_commit.specs.Commit.{may_commit_in}
+use Rattle.rq_commit.proofs.Choices.{if_case}
 
 eq_is : (a b : ℕ) → a ≡ b → (a == b) ≡ true
 eq_is a b e = grind (arith, nat_tests)
@@ -86,46 +86,49 @@ count_le f g a b (v ∷ vs) all le = count_le f g (a + cond (f v) 1 0) (b + cond
 less_quorum : (n a b : ℕ) → a ≤ b → nat_lt n (2 * b) ≡ false → nat_lt n (2 * a) ≡ false
 less_quorum n a b le h = grind (arith, nat_tests)
 
-module _ {E : Type 0} (entries : Entries E) (first : List Member) where
-  -- between the next lower match and an index nothing is held by more
-  unheld_between : (n : RaftNode E) (vs : List NodeId) (index k : ℕ) → lower_match index n.peers < k → is_quorum vs (holds n index) ≡ false → is_quorum vs (holds n k) ≡ false
-  unheld_between n vs index k above few = less_quorum (length vs) (count_by (holds n k) vs) (count_by (holds n index) vs)
-      (count_le (holds n k) (holds n index) 0 0 vs
-      (λ v h. own_or (bytes_eq v n.id) (has_peer (λ (p : Peer). nat_le k p.matched) n.peers v) (has_peer (λ (p : Peer). nat_le index p.matched) n.peers v)
-      (λ t. has_more k index (lower_match index n.peers) n.peers v above (lower_all index 0 n.peers (lower_match index n.peers) (omega arith)) t) h)
-      (omega arith))
-      few
+-- between the next lower match and an index nothing is held by more
+unheld_between : (ps : List Peer) (own : NodeId) (vs : List NodeId) (index k : ℕ) → lower_match index ps < k → is_quorum vs (holds_in ps own index) ≡ false → is_quorum vs (holds_in ps own k) ≡ false
+unheld_between ps own vs index k above few = less_quorum (length vs) (count_by (holds_in ps own k) vs) (count_by (holds_in ps own index) vs)
+    (count_le (holds_in ps own k) (holds_in ps own index) 0 0 vs
+    (λ v h. own_or (bytes_eq v own) (has_peer (λ (p : Peer). nat_le k p.matched) ps v) (has_peer (λ (p : Peer). nat_le index p.matched) ps v)
+    (λ t. has_more k index (lower_match index ps) ps v above (lower_all index 0 ps (lower_match index ps) (omega arith)) t) h)
+    (omega arith))
+    few
 
-  and_none : (b c : Bool) → c ≡ false → (b && c) ≡ false
-  and_none true c e = e
-  and_none false c e = refl
+and_none : (b c : Bool) → c ≡ false → (b && c) ≡ false
+and_none true c e = e
+and_none false c e = refl
 
-  pub skip_unheld : (n : RaftNode E) (low index next : ℕ) → low ≤ next → next ≤ index → lower_match index n.peers ≤ next → is_quorum (voters_now entries first n) (holds n index) ≡ false
-      → greatest (may_commit entries first n) low (index - low) ≡ greatest (may_commit entries first n) low (next - low)
-  skip_unheld n low index next from upto lower few = greatest_skip (may_commit entries first n) low (index - low) (next - low) (omega arith)
-      (λ i above below. and_none (term_at (entry_view entries) n.log i == n.term) (is_quorum (voters_now entries first n) (holds n i)) (unheld_between n (voters_now entries first n) index i (omega arith) few))
+other : (a b : ℕ) (c : Bool) → a ≢ b → ((a == b) && c) ≡ false
+other a b c differ = let e : (a == b) ≡ false = grind (arith, nat_tests) in rw e refl
 
-  other : (a b : ℕ) (c : Bool) → a ≢ b → ((a == b) && c) ≡ false
-  other a b c differ = let e : (a == b) ≡ false = grind (arith, nat_tests) in rw e refl
+both : (a b : Bool) → a ≡ true → b ≡ true → (a && b) ≡ true
+both a b e f = rw (e, f) refl
 
-  pub skip_other_term : (n : RaftNode E) (low index : ℕ) → low < index → term_at (entry_view entries) n.log index ≢ n.term
-      → greatest (may_commit entries first n) low (index - low) ≡ greatest (may_commit entries first n) low (index - 1 - low)
-  skip_other_term n low index from differ = greatest_skip (may_commit entries first n) low (index - low) (index - 1 - low) (omega arith)
-      (λ i above below. let same : i ≡ index = omega arith in rw same (other (term_at (entry_view entries) n.log index) n.term (is_quorum (voters_now entries first n) (holds n index)) differ))
+module _ {E : Type 0} (entries : Entries E) (log : List E) (vs : List NodeId) (ps : List Peer) (own : NodeId) (term : ℕ) where
+  abbrev May : ℕ → Bool
+  May = may_commit_in entries log vs ps own term
 
-  both : (a b : Bool) → a ≡ true → b ≡ true → (a && b) ≡ true
-  both a b e f = rw (e, f) refl
+  pub skip_unheld : (low index next : ℕ) → low ≤ next → next ≤ index → lower_match index ps ≤ next → is_quorum vs (holds_in ps own index) ≡ false
+      → greatest (may_commit_in entries log vs ps own term) low (index - low) ≡ greatest (may_commit_in entries log vs ps own term) low (next - low)
+  skip_unheld low index next from upto lower few = greatest_skip May low (index - low) (next - low) (omega arith)
+      (λ i above below. and_none (term_at (entry_view entries) log i == term) (is_quorum vs (holds_in ps own i)) (unheld_between ps own vs index i (omega arith) few))
+
+  pub skip_other_term : (low index : ℕ) → low < index → term_at (entry_view entries) log index ≢ term
+      → greatest (may_commit_in entries log vs ps own term) low (index - low) ≡ greatest (may_commit_in entries log vs ps own term) low (index - 1 - low)
+  skip_other_term low index from differ = greatest_skip May low (index - low) (index - 1 - low) (omega arith)
+      (λ i above below. let same : i ≡ index = omega arith in rw same (other (term_at (entry_view entries) log index) term (is_quorum vs (holds_in ps own index)) differ))
 
   -- an index that passes is the greatest
-  pub passes_here : (n : RaftNode E) (low index : ℕ) → low < index → term_at (entry_view entries) n.log index ≡ n.term → is_quorum (voters_now entries first n) (holds n index) ≡ true
-      → greatest (may_commit entries first n) low (index - low) ≡ index
-  passes_here n low index from same held = here (index - low) refl
+  pub passes_here : (low index : ℕ) → low < index → term_at (entry_view entries) log index ≡ term → is_quorum vs (holds_in ps own index) ≡ true
+      → greatest (may_commit_in entries log vs ps own term) low (index - low) ≡ index
+  passes_here low index from same held = here (index - low) refl
     where
-      passes : may_commit entries first n index ≡ true
-      passes = both (term_at (entry_view entries) n.log index == n.term) (is_quorum (voters_now entries first n) (holds n index)) (eq_is (term_at (entry_view entries) n.log index) n.term same) held
+      passes : may_commit_in entries log vs ps own term index ≡ true
+      passes = both (term_at (entry_view entries) log index == term) (is_quorum vs (holds_in ps own index)) (eq_is (term_at (entry_view entries) log index) term same) held
 
-      here : (room : ℕ) → room ≡ index - low → greatest (may_commit entries first n) low room ≡ index
+      here : (room : ℕ) → room ≡ index - low → greatest (may_commit_in entries log vs ps own term) low room ≡ index
       here zero is = absurd (omega (arith, from, is))
       here (suc less) is = let at : low + suc less ≡ index = omega (arith, from, is) in
-          if_case (λ (g : ℕ). g ≡ index) (may_commit entries first n (low + suc less)) (low + suc less) (greatest (may_commit entries first n) low less)
-          (λ e. at) (λ e. absurd (let f : may_commit entries first n index ≡ false = subst (λ (k : ℕ). may_commit entries first n k ≡ false) at e in cc (passes, f)))
+          if_case (λ (g : ℕ). g ≡ index) (may_commit_in entries log vs ps own term (low + suc less)) (low + suc less) (greatest (may_commit_in entries log vs ps own term) low less)
+          (λ e. at) (λ e. absurd (let f : may_commit_in entries log vs ps own term index ≡ false = subst (λ (k : ℕ). may_commit_in entries log vs ps own term k ≡ false) at e in cc (passes, f)))

@@ -5,9 +5,8 @@ use Rattle.std.proofs.lemmas.List.{drop_more, length-take}
 use Rattle.std.proofs.lemmas.Grind.{common_steps}
 use Rattle.std.proofs.Math.Seq.{drop-append_seam}
 use Rattle.rq_history.specs.History.{term_at}
-use Rattle.rq_raft.specs.declared.peer.Peer.{Peer}
 use Rattle.rq_raft.specs.Entries.{Entries, entry_view}
-use Rattle.rq_raft.specs.Node.{Splice, with_peer}
+use Rattle.rq_raft.specs.Node.{Splice}
 use Rattle.rq_raft.specs.Append.{matching_count}
 use Rattle.rq_log.specs.Views.{stored_of}
 

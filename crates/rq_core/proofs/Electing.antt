@@ -1,13 +1,11 @@
 -- Steps of the loops over members in an election.
-use Rattle.std.proofs.Common.{◌≡◌, ℕ, ◌+◌, ◌<◌, Bool, true, false, cond, ◌&&◌, List, [], ◌∷◌, ◌++◌, length, get_or, drop, refl, sym, ap, ◌∙◌, append_assoc, arith}
-use Rattle.std.specs.Prelude.{None, not, bytes_eq}
+use Rattle.std.proofs.Common.{◌≡◌, ℕ, ◌+◌, ◌<◌, Bool, true, false, ◌&&◌, List, [], ◌∷◌, ◌++◌, length, get_or, drop, refl, sym, ap, ◌∙◌}
+use Rattle.std.specs.Prelude.{not, bytes_eq}
 use Rattle.std.proofs.lemmas.List.{drop_more}
 use Rattle.rq_wire.specs.declared.config.Member.{Member}
-use Rattle.rq_history.specs.History.{NodeId, EntryView, last_term}
-use Rattle.rq_raft.specs.declared.peer.Peer.{Peer}
+use Rattle.rq_history.specs.History.{EntryView, last_term}
 use Rattle.rq_log.specs.declared.moves.Outgoing.{Outgoing}
 use Rattle.rq_raft.specs.Node.{RaftNode, Packet, packet, VoteAsk}
-use Rattle.rq_raft.specs.Lead.{tables}
 use Rattle.rq_log.specs.Views.{packet_of, spell}
 use Rattle.rq_core.specs.Asks.{asks}
 use Rattle.rq_core.proofs.Sendings.{spell_more}
@@ -36,16 +34,3 @@ module _ {E : Type 0} (view : EntryView E) where
   pub asks_off : (n : RaftNode E) (ms : List Member) (k : ℕ) (m : Member) → k < length ms → m ≡ get_or ms k m → (m.voter && not (bytes_eq m.id n.id)) ≡ false
       → asks view n (drop (k + 1) ms) ≡ asks view n (drop k ms)
   asks_off n ms k m within is other = sym (ap (asks view n) (at_place ms k m within is) ∙ no_more n m (drop (k + 1) ms) m.voter (bytes_eq m.id n.id) refl refl other)
-
-table_more : (id : NodeId) (next : ℕ) (m : Member) (ms : List Member) (b : Bool) → bytes_eq m.id id ≡ b → tables id next (m ∷ ms) ≡ cond b (tables id next ms) (record { id = m.id; next = next; matched = 0; acked = 0; flight = None } ∷ tables id next ms)
-table_more id next m ms true e = rw e refl
-table_more id next m ms false e = rw e refl
-
-pub tables_on : (id : NodeId) (next : ℕ) (ms : List Member) (k : ℕ) (m : Member) (a : List Peer) → k < length ms → m ≡ get_or ms k m → bytes_eq m.id id ≡ false
-    → (a ++ record { id = m.id; next = next; matched = 0; acked = 0; flight = None } ∷ []) ++ tables id next (drop (k + 1) ms) ≡ a ++ tables id next (drop k ms)
-tables_on id next ms k m a within is other = append_assoc a (record { id = m.id; next = next; matched = 0; acked = 0; flight = None } ∷ []) (tables id next (drop (k + 1) ms))
-    ∙ ap (λ (l : List Peer). a ++ l) (sym (ap (tables id next) (at_place ms k m within is) ∙ table_more id next m (drop (k + 1) ms) false other))
-
-pub tables_off : (id : NodeId) (next : ℕ) (ms : List Member) (k : ℕ) (m : Member) → k < length ms → m ≡ get_or ms k m → bytes_eq m.id id ≡ true
-    → tables id next (drop (k + 1) ms) ≡ tables id next (drop k ms)
-tables_off id next ms k m within is same = sym (ap (tables id next) (at_place ms k m within is) ∙ table_more id next m (drop (k + 1) ms) true same)

@@ -3,5 +3,6 @@ mod Sendings
 mod Electing
 mod Appending
 mod Corrected
-mod Quorum
+mod Committing
 mod Rules
+mod Applying

@@ -1,5 +1,5 @@
 -- A rule after another, and what a call leaves.
-use Rattle.std.proofs.Common.{◌≡◌, Bool, true, false, cond, List, ◌∷◌, refl, ap, sym, subst}
+use Rattle.std.proofs.Common.{◌≡◌, Bool, true, false, cond, List, ◌∷◌, ap, sym, subst}
 use Rattle.std.specs.Prelude.{◌==◌, ◌||◌, ◌-◌, ◌^◌, not}
 use Rattle.rq_wire.specs.declared.config.Member.{Member}
 use Rattle.rq_log.specs.declared.moves.Moves.{Moves}

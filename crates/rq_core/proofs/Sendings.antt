@@ -1,15 +1,14 @@
 -- Steps of the loops over peers.
-use Rattle.std.proofs.Common.{◌≡◌, ℕ, ◌+◌, ◌-◌, ◌<◌, ◌≤◌, Bool, true, false, cond, List, [], ◌∷◌, ◌++◌, length, get_or, drop, take, set, refl, sym, ap, ◌∙◌, append_assoc, arith}
+use Rattle.std.proofs.Common.{◌≡◌, ℕ, ◌+◌, ◌-◌, ◌<◌, Bool, true, false, cond, List, [], ◌∷◌, ◌++◌, length, get_or, drop, take, refl, sym, ap, ◌∙◌, arith}
 use Rattle.std.specs.Prelude.{Some, nat_lt}
 use Rattle.std.proofs.lemmas.Bool.Decides.{nat_tests}
-use Rattle.std.proofs.lemmas.List.{take_more, drop-set-lt, drop_more}
-use Rattle.std.proofs.lemmas.Grind.{take-set_at}
+use Rattle.std.proofs.lemmas.List.{drop_more}
 use Rattle.rq_raft.specs.declared.peer.Peer.{Peer}
 use Rattle.rq_log.specs.declared.moves.Outgoing.{Outgoing}
 use Rattle.rq_wire.specs.declared.config.Member.{Member}
 use Rattle.rq_raft.specs.Entries.{Entries}
 use Rattle.rq_raft.specs.Node.{RaftNode, Packet, packet, Splice, Install}
-use Rattle.rq_raft.specs.Lead.{in_flight, probe_after, sends, append_for, message_for}
+use Rattle.rq_raft.specs.Lead.{sends, append_for, message_for}
 use Rattle.rq_log.specs.Views.{packet_of, spell, stored_of}
 use Rattle.std.proofs.Math.Seq.{drop-append_seam}
 

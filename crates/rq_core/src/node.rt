@@ -4,7 +4,7 @@ ghost use Rattle.rq_history.specs.History.{term_at, last_term};
 ghost use Rattle.rq_raft.specs.Entries.{entry_view, configuration};
 ghost use Rattle.rq_raft.specs.Node.{packet, unchanged, is_leader, same_vote, say, started};
 ghost use Rattle.rq_raft.specs.Lead.{holds, committed};
-ghost use Rattle.rq_raft.specs.Deliver.{applied_next};
+ghost use Rattle.rq_raft.specs.Deliver.{applied_next, applied_times};
 ghost use Rattle.rq_core.specs.Fast.{agrees};
 ghost use Rattle.rq_log.specs.Views.{CoreView, Gives, is_moved, HasRoom};
 
@@ -14,8 +14,8 @@ mod electing;
 mod leading;
 
 use rq_log::{Log, LogEntry, Moves, Outgoing, Saying, State, Table};
-use rq_raft::Role;
-use rq_values::{Id, NoMemory};
+use rq_raft::{Peer, Role};
+use rq_values::{Id, NoMemory, TryCopy};
 use rq_wire::{Config, Member};
 use std::alloc::Global;
 use std::marker::Model;
@@ -53,6 +53,72 @@ impl<E: LogEntry> Core<E> {
                 Some(members) => members,
             },
         }
+    }
+
+    pub fn id(&self) -> Id
+        ensures { result ≡ self.now.node.id }
+    {
+        self.id
+    }
+
+    /// With the vote and the log, what a node stores.
+    pub fn term(&self) -> u64
+        ensures { result ≡ self.now.node.term }
+    {
+        self.state.term
+    }
+
+    pub fn vote(&self) -> Option<Id>
+        ensures { result ≡ self.now.node.vote }
+    {
+        self.state.vote
+    }
+
+    pub fn role(&self) -> Role
+        ensures { result ≡ self.now.node.role }
+    {
+        self.state.role
+    }
+
+    /// The leader that is known in this term.
+    pub fn leader(&self) -> Option<Id>
+        ensures { result ≡ self.now.node.leader }
+    {
+        self.state.leader
+    }
+
+    /// When the leader was last heard.
+    pub fn contact(&self) -> Option<u64>
+        ensures { result ≡ self.now.node.contact }
+    {
+        self.state.contact
+    }
+
+    pub fn applied(&self) -> u64
+        ensures { result ≡ self.now.node.applied }
+    {
+        self.state.applied
+    }
+
+    /// A leader's first entry of its term.
+    pub fn first_index(&self) -> u64
+        ensures { result ≡ self.now.node.first_index }
+    {
+        self.state.first_index
+    }
+
+    /// How many packets a leader sent.
+    pub fn probe(&self) -> u64
+        ensures { result ≡ self.now.node.probe }
+    {
+        self.state.probe
+    }
+
+    /// A leader's tables of the other members.
+    pub fn peers(&self) -> &[Peer]
+        ensures { result.now ≡ self.now.node.peers }
+    {
+        self.state.peers.as_slice()
     }
 
     pub fn commit(&self) -> u64
@@ -224,6 +290,16 @@ impl<E: LogEntry> Core<E> {
         self.log.behind(from.saturating_sub(1))
     }
 
+    /// Entries up to this index are applied, as far as they are committed.
+    #[tactic(auto, using(crate::proofs::Applying::applied_some))]
+    pub fn applied_to(&mut self, index: u64)
+        ensures node { self.new.node ≡ applied_times (index - self.old.node.applied) self.old.node }
+        ensures before { self.new.before ≡ self.old.before }
+        ensures first { self.new.first ≡ self.old.first }
+    {
+        self.state.applied = self.state.applied.max(index.min(self.state.commit));
+    }
+
     /// One entry more is applied, where it is committed.
     pub fn apply_next(&mut self)
         ensures node { self.new.node ≡ applied_next self.old.node }
@@ -232,6 +308,42 @@ impl<E: LogEntry> Core<E> {
     {
         if self.state.applied < self.state.commit {
             self.state.applied += 1;
+        }
+    }
+}
+
+impl<E: LogEntry + TryCopy> TryCopy for Core<E> {
+    fn copy(&self, alloc: Global) -> Result<Core<E>, NoMemory> {
+        let first = self.first.copy(alloc)?;
+        let state = match self.state.copy(alloc) {
+            Ok(state) => state,
+            Err(error) => {
+                drop(first);
+                return Err(error);
+            }
+        };
+        let before = match self.before.copy(alloc) {
+            Ok(before) => before,
+            Err(error) => {
+                drop(first);
+                drop(state);
+                return Err(error);
+            }
+        };
+        match self.log.copy(alloc) {
+            Ok(log) => Ok(Core {
+                id: self.id,
+                first,
+                log,
+                state,
+                before,
+            }),
+            Err(error) => {
+                drop(first);
+                drop(state);
+                drop(before);
+                Err(error)
+            }
         }
     }
 }

@@ -5,3 +5,5 @@ mod Newest
 mod Sendings
 mod Replying
 mod Tallies
+mod Following
+mod Lengths

@@ -1,16 +1,14 @@
 -- Where the newest configuration of a log stands, entry by entry.
-use Rattle.std.proofs.Common.{◌≡◌, ℕ, suc, zero, ◌+◌, ◌-◌, ◌<◌, ◌≤◌, ◌⊎◌, ⊎_elim, Bool, true, false, cond, List, [], ◌∷◌, ◌++◌, length, take, drop, get_or, refl, ap, sym, subst, ◌∙◌, arith}
+use Rattle.std.proofs.Common.{◌≡◌, ℕ, suc, zero, ◌+◌, ◌-◌, ◌<◌, ◌≤◌, ◌⊎◌, ⊎_elim, Bool, true, false, cond, List, [], ◌∷◌, ◌++◌, length, take, get_or, refl, ap, sym, subst, ◌∙◌, arith}
 use Rattle.std.specs.Prelude.{Some, Option, slice_get}
 use Rattle.std.proofs.lemmas.List.{length-append, take-append-le, take-take, length-take}
 use Rattle.std.proofs.lemmas.Option.{slice_get-get_or}
-use Rattle.rq_history.specs.History.{EntryView, entry_at}
+use Rattle.rq_history.specs.History.{EntryView}
 use Rattle.rq_history.specs.Configurations.{is_given, is_configuration, configuration_index, voters_in, greatest}
 use Rattle.std.proofs.Math.Seq.{take-append_seam}
 use Rattle.rq_raft.specs.Entries.{Entries, entry_view}
 use Rattle.rq_log.specs.Parts.{IsLog}
 use Rattle.rq_log.proofs.Configs.{conf_same}
-use Rattle.rq_log.proofs.Logs.{entry_new}
-use Rattle.rq_log.proofs.Choices.{if_case}
 
 at_true : (f : ℕ → Bool) (room : ℕ) → f (suc room) ≡ true → greatest f 0 (suc room) ≡ suc room
 at_true f room t = let z : 0 + suc room ≡ suc room = omega arith in ap (λ (n : ℕ). cond (f n) n (greatest f 0 room)) z ∙ ap (λ (b : Bool). cond b (suc room) (greatest f 0 room)) t

@@ -1,15 +1,10 @@
 -- Steps of the loop that marks peers.
-use Rattle.std.proofs.Common.{◌≡◌, ℕ, ◌+◌, ◌-◌, ◌<◌, ◌≤◌, Bool, true, false, List, [], ◌∷◌, ◌++◌, length, get_or, drop, take, set, refl, sym, ap, ◌∙◌, append_assoc, arith}
+use Rattle.std.proofs.Common.{◌≡◌, ℕ, ◌+◌, ◌<◌, Bool, true, false, List, [], ◌∷◌, ◌++◌, length, get_or, drop, take, set, refl, sym, append_assoc, arith}
 use Rattle.std.specs.Prelude.{Some}
 use Rattle.std.proofs.lemmas.List.{take_more, drop-set-lt, drop_more}
 use Rattle.std.proofs.lemmas.Grind.{take-set_at}
 use Rattle.rq_raft.specs.declared.peer.Peer.{Peer}
-use Rattle.rq_log.specs.declared.moves.Outgoing.{Outgoing}
-use Rattle.rq_wire.specs.declared.config.Member.{Member}
-use Rattle.rq_raft.specs.Entries.{Entries}
-use Rattle.rq_raft.specs.Node.{RaftNode, Packet, packet, Splice}
-use Rattle.rq_raft.specs.Lead.{in_flight, probe_after, sends, append_for}
-use Rattle.std.proofs.Math.Seq.{drop-append_seam}
+use Rattle.rq_raft.specs.Lead.{in_flight, probe_after}
 
 flight_on : (f : Peer → Bool) (probe : ℕ) (ps : List Peer) (k : ℕ) (p : Peer) → k < length ps → p ≡ get_or ps k p → f p ≡ true
     → in_flight f probe (drop k ps) ≡ record p { flight = Some (probe + 1) } ∷ in_flight f (probe + 1) (drop (k + 1) ps)

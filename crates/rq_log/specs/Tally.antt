@@ -10,6 +10,9 @@ use Rattle.rq_raft.specs.Lead.{is_idle, wants_more, waits_for, after_ok, after_n
 abbrev pub holds_in : List Peer → NodeId → ℕ → NodeId → Bool
 holds_in peers own index v = if bytes_eq v own then true else has_peer (λ (p : Peer). nat_le index p.matched) peers v
 
+abbrev pub confirms_in : List Peer → NodeId → ℕ → NodeId → Bool
+confirms_in peers own mark v = if bytes_eq v own then true else has_peer (λ (p : Peer). nat_lt mark p.acked) peers v
+
 -- the greatest match below an index
 abbrev pub lower_of : ℕ → ℕ → Peer → ℕ
 lower_of index best p = if nat_lt p.matched index then max best p.matched else best

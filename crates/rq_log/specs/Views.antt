@@ -1,5 +1,5 @@
 -- What contracts see of a log and of a core.
-use Rattle.std.specs.Prelude.{ℕ, ◌≤◌, ◌<◌, ◌^◌, ◌+◌, ◌-◌, ◌≡◌, List, [], ◌∷◌, ◌++◌, length, take, drop, Option, Some, None, Bool, not, ◌==◌, ◌&&◌}
+use Rattle.std.specs.Prelude.{ℕ, ◌≤◌, ◌<◌, ◌^◌, ◌-◌, ◌≡◌, List, [], ◌∷◌, length, take, drop, Option, Some, None, Bool, not, ◌==◌, ◌&&◌}
 use Rattle.rq_wire.specs.declared.config.Member.{Member}
 use Rattle.rq_history.specs.History.{NodeId}
 use Rattle.rq_log.specs.declared.state.State.{State}
@@ -8,7 +8,6 @@ use Rattle.rq_log.specs.declared.moves.Saying.TheVariants.{VoteAsk as OutVoteAsk
 use Rattle.rq_log.specs.declared.moves.Outgoing.{Outgoing}
 use Rattle.rq_log.specs.declared.moves.Moves.{Moves}
 use Rattle.rq_raft.specs.Node.{RaftNode, Message, VoteAsk, VoteSay, Append, AppendSay, Packet, StoredRecord, Splice, RaftTurn, same_vote}
-use Rattle.rq_raft.specs.Entries.{Entries, entry_view}
 
 pub record IsSound (log commit applied : ℕ) : Type 0 where
   pub done : applied ≤ commit

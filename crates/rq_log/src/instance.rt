@@ -1,5 +1,6 @@
 //! The entries of rq_wire in a core.
 use crate::entry::LogEntry;
+use crate::fitting::fitting;
 use rq_wire::{Body, Entry, Member};
 
 impl LogEntry for Entry {
@@ -27,7 +28,7 @@ impl LogEntry for Entry {
     }
 
     fn fit(list: &[Entry]) -> usize {
-        list.len().min(64)
+        fitting(list)
     }
 
     ghost right = { wire_right };

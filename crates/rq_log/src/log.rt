@@ -1,12 +1,12 @@
 //! A log that knows where its newest configuration stands, and its way back.
-ghost use Rattle.std.specs.Prelude.{◌≡◌, ◌+◌, ◌<◌, ◌≤◌, ◌^◌, [], ◌∷◌, ◌++◌, length, take, drop, OnOk, OnErr, vec_len, vec_capacity, List};
+ghost use Rattle.std.specs.Prelude.{◌≡◌, ◌+◌, ◌<◌, ◌≤◌, ◌^◌, [], ◌∷◌, ◌++◌, length, take, drop, OnOk, OnErr, IfOk, vec_len, vec_capacity, List};
 ghost use Rattle.std.specs.Option.{option_copied};
 ghost use Rattle.rq_raft.specs.Entries.{entry_view};
 ghost use Rattle.rq_history.specs.History.{term_at, entry_at};
 ghost use Rattle.rq_history.specs.Configurations.{configuration_index, is_configuration, is_given, greatest};
 
 use crate::entry::LogEntry;
-use rq_values::NoMemory;
+use rq_values::{NoMemory, TryCopy};
 use std::alloc::Global;
 use std::marker::Model;
 
@@ -157,6 +157,44 @@ impl<E: LogEntry> Log<E> {
         } else {
             self.config_at = newest(self.entries.as_slice(), 0, 0);
             Ok(())
+        }
+    }
+}
+
+/// A copy of each item, in order.
+fn copies<T: TryCopy + Drop>(alloc: Global, items: &[T]) -> Result<Vec<T>, NoMemory>
+    ensures { IfOk result (λ copies. copies.items ≡ items.now) }
+{
+    let mut copies = Vec::with_capacity(alloc, items.len())?;
+    for item in items {
+        copies.push(item.copy(alloc)?)?;
+    }
+    Ok(copies)
+}
+
+impl<E: LogEntry + TryCopy> TryCopy for Log<E> {
+    fn copy(&self, alloc: Global) -> Result<Log<E>, NoMemory> {
+        let cut = copies(alloc, self.cut.as_slice())?;
+        let mut entries = match copies(alloc, self.entries.as_slice()) {
+            Ok(entries) => entries,
+            Err(error) => {
+                drop(cut);
+                return Err(error);
+            }
+        };
+        match entries.reserve(cut.len()) {
+            Ok(()) => Ok(Log {
+                entries,
+                config_at: self.config_at,
+                cut_at: self.cut_at,
+                cut,
+                config_before: self.config_before,
+            }),
+            Err(_) => {
+                drop(entries);
+                drop(cut);
+                Err(NoMemory)
+            }
         }
     }
 }

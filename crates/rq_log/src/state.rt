@@ -4,7 +4,7 @@ ghost use Rattle.rq_raft.specs.declared.role.Role.TheVariants.{Follower};
 
 use crate::table::Table;
 use rq_raft::{Peer, Role};
-use rq_values::{Id, NoMemory};
+use rq_values::{Id, NoMemory, TryCopy};
 use std::alloc::Global;
 
 /// What a node is besides its name and its log.
@@ -69,5 +69,18 @@ impl State {
         ensures there { other.new ≡ self.old }
     {
         std::mem::swap(self, other);
+    }
+}
+
+impl TryCopy for State {
+    fn copy(&self, alloc: Global) -> Result<State, NoMemory> {
+        let mut state = State::new(alloc, 0, None);
+        match state.copy_from(self) {
+            Ok(()) => Ok(state),
+            Err(error) => {
+                drop(state);
+                Err(error)
+            }
+        }
     }
 }

@@ -3,7 +3,7 @@ ghost use Rattle.std.specs.Prelude.{◌≡◌, ◌+◌, ◌*◌, ◌<◌, ◌&&�
 ghost use Rattle.rq_raft.specs.Entries.{voters};
 ghost use Rattle.rq_raft.specs.Node.{one_of, has_peer};
 ghost use Rattle.rq_raft.specs.Lead.{is_quorum};
-ghost use Rattle.rq_log.specs.Tally.{holds_in, lower_match};
+ghost use Rattle.rq_log.specs.Tally.{holds_in, confirms_in, lower_match};
 
 use rq_raft::Peer;
 use rq_values::Id;
@@ -113,6 +113,47 @@ pub fn is_held(members: &[Member], peers: &[Peer], own: Id, index: u64) -> bool
     ensures { result ≡ is_quorum (voters members.now) (holds_in peers.now own index) }
 {
     voter_count(members) / 2 < holder_count(members, peers, own, index)
+}
+
+/// Whether a voter answered a probe above the mark: the node itself, or one of the peers.
+fn confirms(peers: &[Peer], own: Id, mark: u64, id: Id) -> bool
+    ensures { result ≡ confirms_in peers.now own mark id }
+{
+    if id == own {
+        return true;
+    }
+    has_acked(peers, mark, id)
+}
+
+#[tactic(auto, using(crate::proofs::Tallies::peer_yes, crate::proofs::Tallies::peer_no))]
+fn has_acked(peers: &[Peer], mark: u64, id: Id) -> bool
+    ensures { result ≡ has_peer (λ p. nat_lt mark p.acked) peers.now id }
+{
+    for peer in peers {
+        if peer.id == id && mark < peer.acked {
+            return true;
+        }
+    }
+    false
+}
+
+/// How many voters answered a probe above the mark.
+#[tactic(auto, using(crate::proofs::Tallies::count_passing))]
+fn confirmer_count(members: &[Member], peers: &[Peer], own: Id, mark: u64) -> usize
+    ensures { result ≡ count_by (confirms_in peers.now own mark) (voters members.now) }
+{
+    members
+        .iter()
+        .filter(|member| member.voter && confirms(peers, own, mark, member.id))
+        .count()
+}
+
+/// Whether more than half of the voters answered a probe above the mark.
+#[tactic(auto, using(crate::proofs::Tallies::half))]
+pub fn is_confirmed(members: &[Member], peers: &[Peer], own: Id, mark: u64) -> bool
+    ensures { result ≡ is_quorum (voters members.now) (confirms_in peers.now own mark) }
+{
+    voter_count(members) / 2 < confirmer_count(members, peers, own, mark)
 }
 
 /// The greatest match below an index.

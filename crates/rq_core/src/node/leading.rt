@@ -1,18 +1,15 @@
 //! A leader sends, commits, proposes, and comes to lead: docs/RAFT.md, "Send", "Commit", "Leading", "Beat", "Propose".
 ghost use Rattle.std.specs.Prelude.{◌≡◌, ◌==◌, ◌+◌, ◌-◌, ◌<◌, ◌≤◌, ◌^◌, [], ◌∷◌, ◌++◌, length, drop, OnOk, OnErr, IfOk, false, Some, None};
-ghost use Rattle.rq_history.specs.History.{term_at};
 ghost use Rattle.rq_raft.specs.Entries.{configuration};
-ghost use Rattle.rq_history.specs.Configurations.{greatest};
 ghost use Rattle.rq_raft.specs.Node.{packet, unchanged, Splice};
-ghost use Rattle.rq_raft.specs.Lead.{message_for, sends, in_flight, probe_after, is_quorum, voters_now, holds, may_commit, committed, send, appended, propose, beat, tables, becomes_leader, leading};
+ghost use Rattle.rq_raft.specs.Lead.{message_for, sends, in_flight, probe_after, committed, send, appended, followed, propose, beat, tables, becomes_leader, leading};
 ghost use Rattle.rq_log.specs.Tally.{wanted_by};
 ghost use Rattle.rq_log.specs.declared.recipients.Recipients.TheVariants.{All, Idle};
 ghost use Rattle.rq_log.specs.Views.{Gives, message_of, packet_of, spell, stored_of, is_moved, HasRoom};
 
 use super::Core;
-use rq_log::{
-    LogEntry, Moves, Outgoing, Recipients, Saying, Table, is_held, is_wanted, lower_match, mark,
-};
+use rq_commit::reached;
+use rq_log::{LogEntry, Moves, Outgoing, Recipients, Saying, Table, is_wanted, mark, tables_for};
 use rq_raft::{Peer, Role};
 use rq_values::NoMemory;
 
@@ -75,47 +72,19 @@ impl<E: LogEntry> Core<E> {
         Ok(self.only(packets))
     }
 
-    fn holds(&self, index: u64) -> bool
-        ensures { result ≡ is_quorum (voters_now E.entries self.now.first self.now.node) (holds self.now.node index) }
-    {
-        is_held(self.members(), self.state.peers.as_slice(), self.id, index)
-    }
-
-    /// The next index below that more may hold.
-    #[tactic(auto, using(crate::proofs::Quorum::skip_unheld, crate::proofs::Quorum::lower_match_less))]
-    fn below(&self, index: u64) -> u64
-        requires { self.now.node.commit < index }
-        ensures from { self.now.node.commit ≤ result }
-        ensures less { result < index }
-        ensures skips { is_quorum (voters_now E.entries self.now.first self.now.node) (holds self.now.node index) ≡ false → greatest (may_commit E.entries self.now.first self.now.node) self.now.node.commit (index - self.now.node.commit) ≡ greatest (may_commit E.entries self.now.first self.now.node) self.now.node.commit (result - self.now.node.commit) }
-    {
-        lower_match(self.state.peers.as_slice(), index).max(self.state.commit)
-    }
-
-    /// The greatest index above the commit that a quorum holds and whose entry has this term, else the commit.
-    #[tactic(auto, using(crate::proofs::Quorum::skip_other_term, crate::proofs::Quorum::passes_here))]
-    fn reached(&self) -> u64
-        ensures value { result ≡ greatest (may_commit E.entries self.now.first self.now.node) self.now.node.commit (length self.now.node.log - self.now.node.commit) }
-        ensures from { self.now.node.commit ≤ result }
-        ensures within { result ≤ length self.now.node.log }
-    {
-        let mut index = self.log.len();
-        while index > self.state.commit {
-            if !self.holds(index) {
-                index = self.below(index);
-            } else if self.log.term_at(index) == self.state.term {
-                return index;
-            } else {
-                index -= 1;
-            }
-        }
-        self.state.commit
-    }
-
+    /// The greatest index above the commit index that a quorum holds and whose entry has this term.
+    #[tactic(auto, using(crate::proofs::Committing::reached_here))]
     pub(crate) fn commit_held(&mut self)
         ensures { self.new ≡ record self.old { node = (committed E.entries self.old.first (unchanged self.old.node)).node } }
     {
-        self.state.commit = self.reached();
+        self.state.commit = reached(
+            &self.log,
+            self.members(),
+            self.state.peers.as_slice(),
+            self.id,
+            self.state.term,
+            self.state.commit,
+        );
     }
 
     /// An entry more. Answers its index.
@@ -132,7 +101,30 @@ impl<E: LogEntry> Core<E> {
         Ok(from)
     }
 
-    fn propose_here(&mut self, entry: E) -> Result<Moves, NoMemory>
+    /// A leader's tables follow a configuration that it appends.
+    fn follow(&mut self, entry: &E) -> Result<(), NoMemory>
+        requires short { length self.old.node.log < 2 ^ 62 }
+        ensures ok { OnOk result (self.new ≡ record self.old { node = followed E.entries self.old.first self.old.node entry.now }) }
+        ensures before { self.new.before ≡ self.old.before }
+        ensures first { self.new.first ≡ self.old.first }
+    {
+        match entry.members() {
+            None => Ok(()),
+            Some(members) => {
+                let peers = tables_for(
+                    self.log.allocator(),
+                    self.id,
+                    self.log.len() + 1,
+                    self.state.peers.as_slice(),
+                    members,
+                )?;
+                drop(std::mem::replace(&mut self.state.peers, peers));
+                Ok(())
+            }
+        }
+    }
+
+    fn send_own(&mut self, entry: E) -> Result<Moves, NoMemory>
         requires fresh { self.old.before.log ≡ self.old.node.log }
         requires room { HasRoom self.old.node }
         ensures ok { IfOk result (λ moves. Gives (committed E.entries self.old.first (send E.entries self.old.first (wanted_by Idle) (appended self.old.node entry))) self.new.node moves) }
@@ -148,6 +140,27 @@ impl<E: LogEntry> Core<E> {
             splice: Some(from),
             packets,
         })
+    }
+
+    fn propose_here(&mut self, entry: E) -> Result<Moves, NoMemory>
+        requires fresh { self.old.before.log ≡ self.old.node.log }
+        requires room { HasRoom self.old.node }
+        ensures ok { IfOk result (λ moves. Gives (committed E.entries self.old.first (send E.entries self.old.first (wanted_by Idle) (appended (followed E.entries self.old.first self.old.node entry) entry))) self.new.node moves) }
+        ensures before { self.new.before ≡ self.old.before }
+        ensures first { self.new.first ≡ self.old.first }
+    {
+        match self.follow(&entry) {
+            Ok(()) => {}
+            Err(error) => {
+                drop(entry);
+                return Err(error);
+            }
+        }
+        if self.is_full() {
+            drop(entry);
+            return Err(NoMemory);
+        }
+        self.send_own(entry)
     }
 
     /// A leader appends an entry of its term, and sends it to each peer that waits for nothing.
@@ -183,27 +196,17 @@ impl<E: LogEntry> Core<E> {
     }
 
     /// Tables of the other members.
-    #[tactic(auto, using(crate::proofs::Electing::tables_on, crate::proofs::Electing::tables_off))]
     fn tables(&self) -> Result<Table<Peer>, NoMemory>
         requires { length self.now.node.log < 2 ^ 62 }
         ensures { IfOk result (λ peers. peers ≡ tables self.now.node.id (length self.now.node.log + 1) (configuration E.entries self.now.first self.now.node.log)) }
     {
-        let mut peers = Table::new(self.log.allocator());
-        let next = self.log.len() + 1;
-        let members = self.members();
-        for member in members {
-            if member.id == self.id {
-                continue;
-            }
-            peers.push(Peer {
-                id: member.id,
-                next,
-                matched: 0,
-                acked: 0,
-                flight: None,
-            })?;
-        }
-        Ok(peers)
+        tables_for(
+            self.log.allocator(),
+            self.id,
+            self.log.len() + 1,
+            &[],
+            self.members(),
+        )
     }
 
     fn become_leader(&mut self, peers: Table<Peer>)

@@ -1,4 +1,4 @@
-use Rattle.std.proofs.Common.{◌≡◌, ◌+◌, ◌≤◌, ◌++◌, drop, take, length}
+use Rattle.std.proofs.Common.{◌≡◌, ◌++◌, drop, take, length}
 use Rattle.rq_raft.specs.Node.{with_peer}
 use Rattle.rq_log.specs.Tally.{after_reply}
 use Rattle.rq_log.proofs.sending.answer.Given as goal

@@ -1,8 +1,7 @@
-use Rattle.std.proofs.Common.{◌≡◌, drop, true, nat_lt}
+use Rattle.std.proofs.Common.{◌≡◌, drop}
 use Rattle.std.specs.Prelude.{nat_le}
 use Rattle.rq_raft.specs.declared.peer.Peer.{Peer}
-use Rattle.rq_raft.specs.Entries.{voters}
-use Rattle.rq_raft.specs.Node.{one_of, has_peer}
+use Rattle.rq_raft.specs.Node.{has_peer}
 use Rattle.rq_log.proofs.tally.has_match.Given as goal
 
 abbrev pub invariant-loop-peer : goal.invariant-loop-peer

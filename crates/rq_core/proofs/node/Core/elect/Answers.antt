@@ -1,4 +1,4 @@
-use Rattle.std.proofs.Common.{subst, sym, rules}
+use Rattle.std.proofs.Common.{subst, rules}
 use Rattle.rq_log.specs.Views.{CoreView, Gives}
 use Rattle.rq_raft.specs.Vote.{campaigns, becomes_candidate, elect}
 use Rattle.rq_core.proofs.Rules.{gives_vote, gives_same, elect_on}

@@ -1,7 +1,6 @@
-use Rattle.std.proofs.Common.{◌≡◌, ◌+◌, ◌-◌, ◌≤◌, ◌++◌, drop, length}
-use Rattle.rq_history.specs.Configurations.{greatest}
+use Rattle.std.proofs.Common.{◌≡◌, ◌+◌, ◌≤◌, ◌++◌, drop}
 use Rattle.rq_log.specs.Views.{spell}
-use Rattle.rq_raft.specs.Lead.{sends, may_commit}
+use Rattle.rq_raft.specs.Lead.{sends}
 use Rattle.rq_log.specs.Tally.{wanted_by}
 use Rattle.rq_core.proofs.node.Core.sends.Given as goal
 

@@ -1,8 +1,7 @@
-use Rattle.std.proofs.Common.{◌≡◌, ◌+◌, ◌≤◌, ◌++◌, drop, length}
+use Rattle.std.proofs.Common.{◌≡◌, ◌++◌, drop}
 use Rattle.rq_log.specs.Views.{spell}
 use Rattle.rq_raft.specs.Entries.{entry_view}
 use Rattle.rq_core.specs.Asks.{asks}
-use Rattle.rq_raft.specs.Lead.{tables}
 use Rattle.rq_core.proofs.node.Core.vote_asks.Given as goal
 
 abbrev pub invariant-loop-member : goal.invariant-loop-member

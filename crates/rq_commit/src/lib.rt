@@ -1,0 +1,6 @@
+//! The index up to which a leader may commit.
+#![tactic(auto)]
+
+mod index;
+
+pub use index::reached;
