@@ -1,13 +1,15 @@
-//! The consensus core and packets with ample memory: elections, whole runs as tables of lines, random walks, bytes, and a leader that
-//! proposes, sends and commits.
+//! The consensus core and packets with ample memory: elections, whole runs as tables of lines, random walks with stops, bytes, and reads
+//! by a pass.
 #![tactic(auto)]
 
 #[cfg(test)]
-mod leading;
+mod kept;
 #[cfg(test)]
 mod line;
 #[cfg(test)]
 mod net;
+#[cfg(test)]
+mod reading;
 #[cfg(test)]
 mod scenario;
 #[cfg(test)]

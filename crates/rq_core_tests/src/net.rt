@@ -1,4 +1,5 @@
 //! Nodes and the packets between them. A packet is spelled when it is sent, and read when it comes in.
+use crate::kept::Kept;
 use crate::line::{Line, What};
 use rq_core::Core;
 use rq_log::{Moves, Outgoing, Saying};
@@ -43,7 +44,7 @@ fn member(alloc: Global, node: usize) -> Result<Member, Fail> {
 }
 
 /// The first so many nodes, all of them voters.
-fn voters(alloc: Global, count: usize) -> Result<Config, Fail> {
+pub fn voters(alloc: Global, count: usize) -> Result<Config, Fail> {
     let mut members = Seq::new(alloc);
     for node in 0..count {
         members.push(member(alloc, node.saturating_add(1))?)?;
@@ -77,9 +78,12 @@ fn line_of(packet: &Outgoing) -> Line {
     }
 }
 
-/// Nodes, every packet that was sent, and what came of the last events.
+/// Nodes and what they have stored, every packet that was sent, and what came of the last events.
 pub struct Net {
     pub cores: Vec<Core<Entry>>,
+    kept: Vec<Kept>,
+    /// In its next event a node stops, behind so many of the things that it stores, and starts again.
+    pub stop: Option<usize>,
     pub packets: Vec<Vec<u8>>,
     pub seen: Vec<Line>,
 }
@@ -88,10 +92,13 @@ impl Drop for Net {
     fn drop(self) {
         let Net {
             cores,
+            kept,
+            stop: _,
             packets,
             seen,
         } = self;
         drop(cores);
+        drop(kept);
         drop(packets);
         drop(seen);
     }
@@ -100,21 +107,100 @@ impl Drop for Net {
 impl Net {
     /// So many nodes, in that term, with empty logs.
     pub fn new(alloc: Global, count: usize, term: u64) -> Result<Net, Fail> {
-        let mut cores = Vec::new(alloc);
-        for node in 0..count {
-            let id = id_of(node.saturating_add(1)).ok_or("no id")?;
-            let first = voters(alloc, count)?;
-            cores.push(Core::new(id, first, term, None, Vec::new(alloc)))?;
-        }
-        Ok(Net {
-            cores,
+        let mut net = Net {
+            cores: Vec::new(alloc),
+            kept: Vec::new(alloc),
+            stop: None,
             packets: Vec::new(alloc),
             seen: Vec::new(alloc),
-        })
+        };
+        match net.add(alloc, count, term) {
+            Ok(()) => Ok(net),
+            Err(error) => {
+                drop(net);
+                Err(error)
+            }
+        }
     }
 
-    /// What a node leaves is stored and sent.
+    fn add(&mut self, alloc: Global, count: usize, term: u64) -> Result<(), Fail> {
+        for node in 0..count {
+            let kept = Kept {
+                term,
+                vote: None,
+                log: Vec::new(alloc),
+            };
+            self.kept.push(kept)?;
+            self.cores
+                .push(self.started(alloc, node.saturating_add(1), count)?)?;
+        }
+        Ok(())
+    }
+
+    /// One of so many nodes, with what it has stored.
+    fn started(&self, alloc: Global, node: usize, count: usize) -> Result<Core<Entry>, Fail> {
+        let kept = self.kept.get(node.saturating_sub(1)).ok_or("no node")?;
+        kept.started(alloc, node, count)
+    }
+
+    /// The node starts with what it has stored.
+    fn start(&mut self, alloc: Global, node: usize) -> Result<(), Fail> {
+        let core = self.started(alloc, node, self.cores.len())?;
+        match self.cores.get_mut(node.saturating_sub(1)) {
+            Some(place) => {
+                drop(std::mem::replace(place, core));
+                Ok(())
+            }
+            None => {
+                drop(core);
+                Err("no node".into())
+            }
+        }
+    }
+
+    /// What a node leaves is stored, at most so many things of it.
+    fn store(
+        &mut self,
+        alloc: Global,
+        node: usize,
+        moves: &Moves,
+        most: usize,
+    ) -> Result<(), Fail> {
+        let core = self.cores.get(node.saturating_sub(1)).ok_or("no node")?;
+        let kept = self.kept.get_mut(node.saturating_sub(1)).ok_or("no node")?;
+        let mut left = most;
+        if moves.vote && left > 0 {
+            kept.term = core.term();
+            kept.vote = core.vote();
+            left -= 1;
+        }
+        match moves.splice {
+            Some(from) => {
+                if left > 0 {
+                    kept.splice(alloc, from, core.entries_from(from))?;
+                }
+            }
+            None => {}
+        }
+        Ok(())
+    }
+
+    /// What a node leaves is stored and then sent, if it doesn't stop meanwhile.
     fn took(&mut self, alloc: Global, node: usize, moves: &Moves) -> Result<(), Fail> {
+        match self.stop {
+            Some(most) => {
+                self.stop = None;
+                self.store(alloc, node, moves, most)?;
+                self.start(alloc, node)
+            }
+            None => {
+                self.store(alloc, node, moves, 2)?;
+                self.send(alloc, node, moves)
+            }
+        }
+    }
+
+    fn send(&mut self, alloc: Global, node: usize, moves: &Moves) -> Result<(), Fail> {
         let core = self.cores.get(node.saturating_sub(1)).ok_or("no node")?;
         if moves.vote {
             self.seen.push((What::Votes, 0, [0; 4]))?;

@@ -1,5 +1,5 @@
-//! A random walk of five nodes: elections, beats, proposals, and packets that are lost, repeated and late. After each step the laws of
-//! docs/RAFT.md are looked at: one leader a term, logs match, what is committed stays, and a later leader has it.
+//! A random walk of five nodes: elections, beats, proposals, packets that are lost, repeated and late, and stops behind any of the things
+//! that an event stores. After each step the laws of docs/RAFT.md are looked at: one leader a term, logs match, what is committed stays, and a later leader has it.
 use crate::net::Net;
 use rq_core::Core;
 use rq_values::TryCopy;
@@ -7,7 +7,7 @@ use rq_wire::Entry;
 use std::alloc::Global;
 use std::test::Fail;
 
-const STEPS: usize = 1_000;
+const STEPS: usize = 3_000;
 
 /// Numbers that look random, the same in each run. Source: Marsaglia, "Xorshift RNGs", 2003.
 #[derive(Drop)]
@@ -125,6 +125,9 @@ impl Seen {
 /// One step, of the node that is answered.
 fn step(alloc: Global, net: &mut Net, numbers: &mut Numbers) -> Result<usize, Fail> {
     let kind = numbers.below(100);
+    if numbers.below(100) == 0 {
+        net.stop = Some(numbers.below(3));
+    }
     let node = numbers.below(net.cores.len()).saturating_add(1);
     let count = net.packets.len();
     if kind < 80 && count > 0 {

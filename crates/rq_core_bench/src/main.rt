@@ -1,0 +1,22 @@
+//! `core_bench COUNT`: a leader of three appends so many entries, one after the other, sends each to two followers and commits it by
+//! their replies. The nodes and the packets' bytes are in memory.
+#![tactic(auto)]
+
+mod cluster;
+mod count;
+
+use cluster::Cluster;
+use count::count_of;
+use std::io;
+
+fn main(rt: HostRuntime) -> io::Result<()> {
+    let count = count_of(&rt);
+    match Cluster::run(rt.alloc(), count) {
+        Some([last, commit, known]) => {
+            println!(rt;
+                "{last} entries, {commit} committed by the leader, {known} known to be by the second"
+            )
+        }
+        None => println!(rt; "out of memory"),
+    }
+}

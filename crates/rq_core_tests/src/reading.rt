@@ -1,0 +1,121 @@
+//! Reads by a pass at a leader, and calls that no other test makes.
+use crate::net::{Net, id_of};
+use rq_core::Core;
+use rq_log::{Message, Packet};
+use rq_reads::{Pass, begin, freshness, ready};
+use rq_values::TryCopy;
+use rq_wire::Entry;
+use std::alloc::Global;
+use std::test::Fail;
+
+/// Three nodes, of which the first leads.
+fn led(alloc: Global) -> Result<Net, Fail> {
+    let mut net = Net::new(alloc, 3, 0)?;
+    let outcome = elect_first(alloc, &mut net);
+    match outcome {
+        Ok(()) => Ok(net),
+        Err(error) => {
+            drop(net);
+            Err(error)
+        }
+    }
+}
+
+fn elect_first(alloc: Global, net: &mut Net) -> Result<(), Fail> {
+    net.elect(alloc, 1)?;
+    for number in 1..6 {
+        net.deliver(alloc, number)?;
+    }
+    Ok(())
+}
+
+/// The reply of a node that it has the leader's first entry, to the packet with that probe.
+fn reply(core: &mut Core<Entry>, node: usize, probe: u64) -> Result<(), Fail> {
+    let from = id_of(node).ok_or("no id")?;
+    let moves = core.deliver(
+        Packet {
+            term: core.term(),
+            from,
+            to: core.id(),
+            message: Message::AppendSay {
+                ok: true,
+                at: 1,
+                probe,
+            },
+        },
+        0,
+    )?;
+    drop(moves);
+    Ok(())
+}
+
+/// The pass that is begun, and how many packets are sent with it.
+fn begun(core: &mut Core<Entry>) -> Result<(Pass, usize), Fail> {
+    match begin(core, 7) {
+        Ok((pass, moves)) => {
+            let count = moves.packets.len();
+            drop(moves);
+            Ok((pass, count))
+        }
+        Err(_) => Err("no pass".into()),
+    }
+}
+
+/// Whether a pass is ready before a reply, after one to what was sent before it, and after one to what was sent with it.
+fn passes(core: &mut Core<Entry>) -> Result<[bool; 3], Fail> {
+    let (pass, count) = begun(core)?;
+    let before = count != 2 || ready(core, &pass);
+    reply(core, 2, pass.mark)?;
+    let early = ready(core, &pass);
+    reply(core, 3, pass.mark.saturating_add(1))?;
+    Ok([before, early, ready(core, &pass)])
+}
+
+#[test]
+fn a_pass_counts_later_replies(rt: HostRuntime) -> Result<(), Fail> {
+    let mut net = led(rt.alloc())?;
+    let core = net.cores.get_mut(0).ok_or("no node")?;
+    let outcome = passes(core);
+    drop(net);
+    assert_eq!(rt; outcome?, [false, false, true]);
+    Ok(())
+}
+
+/// Whether a follower heard of its leader lately enough, with limits, at moment 10.
+fn are_fresh(net: &Net) -> Result<[bool; 3], Fail> {
+    let core = net.cores.get(1).ok_or("no node")?;
+    Ok([
+        freshness(core, Some(10), 10).is_ok(),
+        freshness(core, Some(9), 10).is_ok(),
+        freshness(core, Some(0), 10).is_ok(),
+    ])
+}
+
+#[test]
+fn a_follower_is_fresh_within_the_limit(rt: HostRuntime) -> Result<(), Fail> {
+    let net = led(rt.alloc())?;
+    let fresh = are_fresh(&net);
+    drop(net);
+    assert_eq!(rt; fresh?, [true, false, true]);
+    Ok(())
+}
+
+/// How a copy stands, and how much it has applied after it was to apply more than is committed.
+fn copied(alloc: Global, core: &Core<Entry>) -> Result<[u64; 4], Fail> {
+    let mut copy = core.copy(alloc)?;
+    copy.applied_to(5);
+    let stands = [copy.term(), copy.last(), copy.commit(), copy.applied()];
+    drop(copy);
+    Ok(stands)
+}
+
+#[test]
+fn a_copy_stands_alike(rt: HostRuntime) -> Result<(), Fail> {
+    let mut net = led(rt.alloc())?;
+    let core = net.cores.get_mut(0).ok_or("no node")?;
+    let outcome = reply(core, 2, 1).and_then(|_| copied(rt.alloc(), core));
+    let applied = core.applied();
+    drop(net);
+    assert_eq!(rt; (outcome?, applied), ([1, 1, 1, 1], 0));
+    Ok(())
+}
