@@ -1,0 +1,179 @@
+-- Each step of a line is one of few kinds.
+use Rattle.std.proofs.Common.{◌≡◌, ℕ, zero, suc, if◌then◌else◌, Bool, true, false, Option, Some, None, List, [], ◌∷◌, refl, ap, ◌∙◌, subst}
+use Rattle.std.specs.Prelude.{slice_get, is_some, not, bytes_eq}
+use Rattle.rq_json.specs.Body.{texts_of}
+use Rattle.rq_history.specs.History.{NodeId}
+use Rattle.rq_raft.specs.Node.{Packet, one_of}
+use Rattle.rq_request.specs.declared.ask.Level.TheVariants as level
+use Rattle.rq_world.specs.declared.log_entry.LogEntry.{LogEntry}
+use Rattle.rq_world.specs.Promise.{number_of}
+use Rattle.rq_world.specs.World.{Act, Op, NodeState, Running, Down}
+use Rattle.rq_world.specs.World as world
+use Rattle.rq_play.specs.Line.{Action, Line}
+use Rattle.rq_play.specs.Line as lines
+use Rattle.rq_play.specs.Said.{Shown}
+use Rattle.rq_play.specs.Server.{Course, Fault, NoFault, Reading, Storing, opens, opening}
+use Rattle.rq_play.specs.Cluster.{Cluster, now, state_in, Spoken, acts, goes_if, named, starts, stops, arms, cuts, took, delivers, is_named, takes, is_cut_off, takes_lowest, lowest, is_none, can_name, starts_next, Prepared, Plan, when, list_of, asks_at, is_running, at_server, before_cluster, in_cluster, planned}
+use Rattle.rq_play.proofs.Common.{if_case, id_self}
+
+pub data IsBasic (c : Cluster) : Spoken → Type 0 where
+  is_nothing : IsBasic c (c, [])
+  is_shown : (i : NodeId) → one_of c.servers i ≡ true → IsBasic c (c, Shown i (state_in c i) ∷ [])
+  is_act : (course : Course) (i : NodeId) (a : Act) → number_of a ≡ None → one_of c.servers i ≡ true → IsBasic c (acts course c i a)
+  is_ask : (course : Course) (i : NodeId) (p : Prepared) (op : Op) → one_of c.servers i ≡ true → IsBasic c (asks_at course c i p op)
+  is_start : (course : Course) (i : NodeId) → one_of c.servers i ≡ true → IsBasic c (starts course c i (state_in c i))
+  is_stop : (i : NodeId) → one_of c.servers i ≡ true → IsBasic c (stops c i (state_in c i))
+  is_armed : (calls pick : ℕ) (i : NodeId) → IsBasic c (arms calls pick c i)
+  is_cut : (cut : Bool) (i : NodeId) → IsBasic c (cuts cut c i)
+  is_taken : (k : ℕ) → IsBasic c (took c k, [])
+  is_delivered : (course : Course) (k : ℕ) (i : NodeId) → one_of c.servers i ≡ true → IsBasic c (acts course (took c k) i (world.Deliver k))
+
+-- ---- packets
+
+delivers_basic : (course : Course) (c : Cluster) (k : ℕ) (o : Option (Packet LogEntry)) → IsBasic c (delivers course c k o)
+delivers_basic course c k None = IsBasic.is_nothing
+delivers_basic course c k (Some p) = if_case (IsBasic c) (is_named c p.to) (acts course (took c k) p.to (world.Deliver k)) (took c k, []) (λ e. IsBasic.is_delivered course k p.to e) (λ e. IsBasic.is_taken k)
+
+takes_basic : (course : Course) (c : Cluster) (k : ℕ) (o : Option (Packet LogEntry)) → IsBasic c (takes course c k o)
+takes_basic course c k o = if_case (IsBasic c) (is_cut_off c o) (took c k, []) (delivers course c k o) (λ e. IsBasic.is_taken k) (λ e. delivers_basic course c k o)
+
+lowest_basic : (course : Course) (c : Cluster) (o : Option ℕ) → IsBasic c (takes_lowest course c o)
+lowest_basic course c None = IsBasic.is_nothing
+lowest_basic course c (Some k) = takes_basic course c k (slice_get (now c).sent k)
+
+-- ---- starts
+
+one_at : (ids : List NodeId) (k : ℕ) (i : NodeId) → slice_get ids k ≡ Some i → one_of ids i ≡ true
+one_at [] k i e = absurd (cc)
+one_at (j ∷ ids) zero i e = ap (λ (b : Bool). if b then true else one_of ids i) (ap (bytes_eq i) (same e) ∙ id_self i)
+  where
+    same : Some j ≡ Some i → j ≡ i
+    same e = cc
+one_at (j ∷ ids) (suc k) i e = by (bytes_eq i j) (one_at ids k i e)
+  where
+    by : (b : Bool) → one_of ids i ≡ true → (if b then true else one_of ids i) ≡ true
+    by true there = refl
+    by false there = there
+
+next_basic : (course : Course) (c : Cluster) (k : ℕ) (o : Option NodeId) → slice_get c.servers k ≡ o → IsBasic c (starts_next course c o)
+next_basic course c k None e = IsBasic.is_nothing
+next_basic course c k (Some i) e = IsBasic.is_start course i (one_at c.servers k i e)
+
+-- ---- lines
+
+abbrev pub PlanIsBasic : Plan → Type 0
+PlanIsBasic plan = (course : Course) (k : ℕ) (d : Cluster) → d.servers ≡ plan.start.servers → IsBasic d (plan.step course k d)
+
+abbrev pub BasicIf : Option Plan → Type 0
+BasicIf None = Unit {0}
+BasicIf (Some plan) = PlanIsBasic plan
+
+when_basic : (b : Bool) (plan : Plan) → PlanIsBasic plan → BasicIf (when b plan)
+when_basic true plan basic = basic
+when_basic false plan basic = tt
+
+module _ (c : Cluster) (i : NodeId) (named : one_of c.servers i ≡ true) where
+  still : (d : Cluster) → d.servers ≡ c.servers → one_of d.servers i ≡ true
+  still d same = ap (λ (ids : List NodeId). one_of ids i) same ∙ named
+
+  action_basic : (p : Prepared) (action : Action) → BasicIf (at_server p c i action)
+  action_basic p lines.Elect = λ course k d same. IsBasic.is_act course i world.Elect refl (still d same)
+  action_basic p lines.Beat = λ course k d same. IsBasic.is_act course i world.Beat refl (still d same)
+  action_basic p lines.Apply = λ course k d same. IsBasic.is_act course i world.Apply refl (still d same)
+  action_basic p (lines.Execute body) = when_basic (is_some (texts_of body)) _ (λ course k d same. IsBasic.is_ask course i p (world.Write (list_of p.items) false) (still d same))
+  action_basic p (lines.Query body) = when_basic (is_some (texts_of body)) _ (λ course k d same. IsBasic.is_ask course i p (world.Read p.items level.None None) (still d same))
+  action_basic p lines.Stop = when_basic (is_running (state_in c i)) _ (λ course k d same. IsBasic.is_stop i (still d same))
+  action_basic p (lines.StopWithin calls pick) = when_basic (is_running (state_in c i)) _ (λ course k d same. IsBasic.is_armed calls pick i)
+  action_basic p lines.Start = when_basic (not (is_running (state_in c i))) _ (λ course k d same. IsBasic.is_start course i (still d same))
+  action_basic p lines.Cut = λ course k d same. IsBasic.is_cut true i
+  action_basic p lines.Heal = λ course k d same. IsBasic.is_cut false i
+  action_basic p lines.Show = λ course k d same. IsBasic.is_shown i (still d same)
+
+before_basic : (c : Cluster) (line : Line) → BasicIf (before_cluster c line)
+before_basic c lines.Skip = λ course k d same. IsBasic.is_nothing
+before_basic c (lines.Cluster ids) = when_basic (can_name c ids) _ (λ course k d same. next_basic course d k (slice_get d.servers k) refl)
+before_basic c (lines.At i action) = tt
+before_basic c (lines.Deliver number) = tt
+before_basic c (lines.Run times) = tt
+
+in_basic : (p : Prepared) (c : Cluster) (line : Line) → BasicIf (in_cluster p c line)
+in_basic p c lines.Skip = λ course k d same. IsBasic.is_nothing
+in_basic p c (lines.Cluster ids) = tt
+in_basic p c (lines.At i action) = if_case BasicIf (is_named c i) (at_server p c i action) None (λ e. action_basic c i e p action) (λ e. tt)
+in_basic p c (lines.Deliver zero) = tt
+in_basic p c (lines.Deliver (suc j)) = when_basic (is_some (slice_get (now c).sent j)) _ (λ course k d same. delivers_basic course d j (slice_get (now d).sent j))
+in_basic p c (lines.Run times) = λ course k d same. lowest_basic course d (lowest d.taken 0 (now d).sent)
+
+pub line_basic : (p : Prepared) (c : Cluster) (line : Line) (plan : Plan) → planned p c line ≡ Some plan → PlanIsBasic plan
+line_basic p c line plan is = subst BasicIf is (if_case BasicIf (is_none c.servers) (before_cluster c line) (in_cluster p c line) (λ e. before_basic c line) (λ e. in_basic p c line))
+
+-- ---- what a step leaves
+
+start_servers : (course : Course) (c : Cluster) (i : NodeId) (s : NodeState) → (starts course c i s).0.servers ≡ c.servers
+start_servers course c i (Running n) = refl
+start_servers course c i (Down kept rest) = by course.fault
+  where
+    by : (f : Fault) → (goes_if c (opening c.first f course i) i (opens c.first f course i (c.extras i) kept rest).0.extra).servers ≡ c.servers
+    by NoFault = refl
+    by Reading = refl
+    by Storing = refl
+
+stop_servers : (c : Cluster) (i : NodeId) (s : NodeState) → (stops c i s).0.servers ≡ c.servers
+stop_servers c i (Running n) = refl
+stop_servers c i (Down kept rest) = refl
+
+pub basic_servers : (c : Cluster) (w : Spoken) → IsBasic c w → w.0.servers ≡ c.servers
+basic_servers c _ IsBasic.is_nothing = refl
+basic_servers c _ (IsBasic.is_shown i named) = refl
+basic_servers c _ (IsBasic.is_act course i a plain named) = refl
+basic_servers c _ (IsBasic.is_ask course i p op named) = refl
+basic_servers c _ (IsBasic.is_start course i named) = start_servers course c i (state_in c i)
+basic_servers c _ (IsBasic.is_stop i named) = stop_servers c i (state_in c i)
+basic_servers c _ (IsBasic.is_armed calls pick i) = refl
+basic_servers c _ (IsBasic.is_cut cut i) = refl
+basic_servers c _ (IsBasic.is_taken k) = refl
+basic_servers c _ (IsBasic.is_delivered course k i named) = refl
+
+-- ---- where a line begins: where it stands, or, of the cluster line, where its servers are named
+pub data BeginsAt (c : Cluster) : Cluster → Type 0 where
+  is_here : {start : Cluster} → start ≡ c → BeginsAt c start
+  names : {start : Cluster} (ids : List NodeId) → is_none c.servers ≡ true → can_name c ids ≡ true → start ≡ named c ids → BeginsAt c start
+
+abbrev BeginsIf : Cluster → Option Plan → Type 0
+BeginsIf c None = Unit {0}
+BeginsIf c (Some plan) = BeginsAt c plan.start
+
+when_begins : (c : Cluster) (b : Bool) (plan : Plan) → (b ≡ true → BeginsAt c plan.start) → BeginsIf c (when b plan)
+when_begins c true plan begins = begins refl
+when_begins c false plan begins = tt
+
+action_begins : (p : Prepared) (c : Cluster) (i : NodeId) (action : Action) → BeginsIf c (at_server p c i action)
+action_begins p c i lines.Elect = BeginsAt.is_here refl
+action_begins p c i lines.Beat = BeginsAt.is_here refl
+action_begins p c i lines.Apply = BeginsAt.is_here refl
+action_begins p c i (lines.Execute body) = when_begins c (is_some (texts_of body)) _ (λ e. BeginsAt.is_here refl)
+action_begins p c i (lines.Query body) = when_begins c (is_some (texts_of body)) _ (λ e. BeginsAt.is_here refl)
+action_begins p c i lines.Stop = when_begins c (is_running (state_in c i)) _ (λ e. BeginsAt.is_here refl)
+action_begins p c i (lines.StopWithin calls pick) = when_begins c (is_running (state_in c i)) _ (λ e. BeginsAt.is_here refl)
+action_begins p c i lines.Start = when_begins c (not (is_running (state_in c i))) _ (λ e. BeginsAt.is_here refl)
+action_begins p c i lines.Cut = BeginsAt.is_here refl
+action_begins p c i lines.Heal = BeginsAt.is_here refl
+action_begins p c i lines.Show = BeginsAt.is_here refl
+
+before_begins : (c : Cluster) (line : Line) → is_none c.servers ≡ true → BeginsIf c (before_cluster c line)
+before_begins c lines.Skip none = BeginsAt.is_here refl
+before_begins c (lines.Cluster ids) none = when_begins c (can_name c ids) _ (λ can. BeginsAt.names ids none can refl)
+before_begins c (lines.At i action) none = tt
+before_begins c (lines.Deliver number) none = tt
+before_begins c (lines.Run times) none = tt
+
+in_begins : (p : Prepared) (c : Cluster) (line : Line) → BeginsIf c (in_cluster p c line)
+in_begins p c lines.Skip = BeginsAt.is_here refl
+in_begins p c (lines.Cluster ids) = tt
+in_begins p c (lines.At i action) = if_case (BeginsIf c) (is_named c i) (at_server p c i action) None (λ e. action_begins p c i action) (λ e. tt)
+in_begins p c (lines.Deliver zero) = tt
+in_begins p c (lines.Deliver (suc j)) = when_begins c (is_some (slice_get (now c).sent j)) _ (λ e. BeginsAt.is_here refl)
+in_begins p c (lines.Run times) = BeginsAt.is_here refl
+
+pub line_starts : (p : Prepared) (c : Cluster) (line : Line) (plan : Plan) → planned p c line ≡ Some plan → BeginsAt c plan.start
+line_starts p c line plan is = subst (BeginsIf c) is (if_case (BeginsIf c) (is_none c.servers) (before_cluster c line) (in_cluster p c line) (λ e. before_begins c line e) (λ e. in_begins p c line))

@@ -1,0 +1,6 @@
+mod Common
+mod Basics
+mod Acting
+mod Deciding
+mod Telling
+mod Numbering

@@ -1,0 +1,87 @@
+-- What each run of a script's lines promises. docs/RAFT.md, "What a run promises".
+use Rattle.std.specs.Prelude.{◌≡◌, ◌≢◌, ◌⊎◌, ◌++◌, ℕ, true, Some, List, [], slice_get, ⊤}
+use Rattle.rq_history.specs.History.{NodeId}
+use Rattle.rq_raft.specs.Node.{Packet, StoredRecord, Persistent, one_of}
+use Rattle.rq_world.specs.declared.log_entry.LogEntry.{LogEntry}
+use Rattle.rq_world.specs.Node.{Node, persistent_of, members}
+use Rattle.rq_world.specs.Promise.{IsNumbered, Keeps}
+use Rattle.rq_world.specs.Appends.{AsksAppendOnce, WritesHavePlaces}
+use Rattle.rq_world.specs.World.{NodeState, Act, IsPast, Running, Down}
+use Rattle.rq_world.specs.World as world
+use Rattle.rq_play.specs.Line.{Line}
+use Rattle.rq_play.specs.Said.{Said, Up, Down as WentDown, Put, Gave, Shown, notes_of}
+use Rattle.rq_play.specs.Server.{Server, Course, gone_down, opens}
+use Rattle.rq_play.specs.Cluster.{Cluster, now, server_in, state_in, Prepared, acts, moved_in, starts, stops, is_running}
+use Rattle.rq_play.specs.Reading.{IsReadIn}
+use Rattle.rq_play.specs.Runs.{Steps, IsOutside, unanswered}
+use Rattle.rq_play.specs.Book.{AreNumbered, AreOpen}
+
+-- ---- one act
+
+-- only this server changes, and these packets were sent
+pub record ChangesOne (i : NodeId) (after : Server) (more : List (Packet LogEntry)) (c next : Cluster) : Type 0 where
+  pub here : server_in next i ≡ after
+  pub others : (j : NodeId) → j ≢ i → server_in next j ≡ server_in c j
+  pub sent : (now next).sent ≡ (now c).sent ++ more
+  pub moment : (now next).moment ≡ (now c).moment
+  pub servers : next.servers ≡ c.servers
+  pub first : next.first ≡ c.first
+  pub taken : next.taken ≡ c.taken
+  pub asks : next.asks ≡ c.asks
+  pub words : next.words ≡ c.words
+
+-- an act at a server changes that server alone, as its own definition has it
+abbrev pub EachActIsAtOne : Type 0
+EachActIsAtOne = (course : Course) (c : Cluster) (i : NodeId) (a : Act) → ChangesOne i (moved_in course c i a).server (moved_in course c i a).packets c (acts course c i a).0
+
+-- a start of a member whose node is down, and a stop of a node that runs, too
+abbrev pub EachStartIsAtOne : Type 0
+EachStartIsAtOne = (course : Course) (c : Cluster) (i : NodeId) (kept : Persistent LogEntry) (rest : List (StoredRecord LogEntry)) → state_in c i ≡ Down kept rest → one_of (members c.first) i ≡ true
+    → ChangesOne i (opens c.first course.fault course i (c.extras i) kept rest).0 [] c (starts course c i (Down kept rest)).0
+
+abbrev pub EachStopIsAtOne : Type 0
+EachStopIsAtOne = (c : Cluster) (i : NodeId) (n : Node) → state_in c i ≡ Running n
+    → ChangesOne i (record { state = Down (persistent_of n) []; extra = gone_down (c.extras i) n world.Idle }) [] c (stops c i (Running n)).0
+
+-- ---- a line
+
+-- a line leads somewhere, however its statements are read, or it can't stand, and never both
+pub record IsDecided (c : Cluster) (line : Line) : Type 0 where
+  pub either : (prepared : Prepared) → IsReadIn c line prepared → ((said : List Said) × (next : Cluster) × Steps c line said next) ⊎ IsOutside c line
+  pub apart : (said : List Said) (next : Cluster) → Steps c line said next → IsOutside c line → ⊥
+
+-- ---- a run
+
+-- what was said is what the book of the world has
+abbrev pub IsTold : List Said → Cluster → Type 0
+IsTold said c = notes_of said ≡ (now c).book
+
+-- at some moment of the run the server is in this state
+pub record WasIn (c : Cluster) (i : NodeId) (state : NodeState) : Type 0 where
+  pub moment : world.Run
+  pub past : IsPast c.first moment c.run
+  pub is : (world.world c.first moment).nodes i ≡ state
+
+abbrev pub IsSo : Cluster → Said → Type 0
+IsSo c (Up i n) = WasIn c i (Running n)
+IsSo c (WentDown i) = (state : NodeState) × (is_running state ≢ true) × WasIn c i state
+IsSo c (Shown i state) = WasIn c i state
+IsSo c (Put number i op) = ⊤
+IsSo c (Gave number say place) = ⊤
+
+-- what was said of a server was so
+abbrev pub AreSo : List Said → Cluster → Type 0
+AreSo said c = (k : ℕ) (s : Said) → slice_get said k ≡ Some s → IsSo c s
+
+-- no two asks have one number; each running node is a replica of a prefix of the one log, and each answer is right; each acknowledged
+-- write has a place of its own; each ask was appended at most once
+pub record AreKept (c : Cluster) : Type 0 where
+  pub numbered : AreNumbered 0 (now c).book c.asks
+  pub apart : IsNumbered c.first c.run
+  pub keeps : Keeps c.first c.run
+  pub places : WritesHavePlaces c.first c.run
+  pub appends : AsksAppendOnce c.first c.run
+
+-- what is unanswered is what the book has open
+abbrev pub IsOpen : Cluster → Type 0
+IsOpen c = AreOpen (now c).book (unanswered c)

@@ -1,0 +1,36 @@
+//! What holds of each run of a script's lines, each the contract of a function that does nothing when it runs.
+
+ghost use Rattle.std.specs.Prelude.{ℕ, List};
+ghost use Rattle.rq_play.specs.Line.{Line};
+ghost use Rattle.rq_play.specs.Said.{Said};
+ghost use Rattle.rq_play.specs.Cluster.{Cluster};
+ghost use Rattle.rq_play.specs.Runs.{Runs};
+ghost use Rattle.rq_play.specs.Promise.{EachActIsAtOne, EachStartIsAtOne, EachStopIsAtOne, IsDecided, IsTold, AreKept};
+
+/// An act, a start and a stop at a server change that server alone, as its own definition has it, and send what that says.
+pub fn acts_change_one_server()
+    ensures { EachActIsAtOne × EachStartIsAtOne × EachStopIsAtOne }
+{}
+
+/// Each line leads somewhere or can't stand, and never both.
+#[tactic(auto, using(crate::proofs::Deciding::decided))]
+pub fn lines_are_decided()
+    ensures { (c : Cluster) (line : Line) → IsDecided c line }
+{}
+
+/// What the lines say of asks and answers is what the world's book has, in order.
+#[tactic(auto, using(crate::proofs::Telling::runs_are_told))]
+pub fn answers_are_told()
+    ensures { (words : List ℕ) (lines : List Line) (said : List Said) (c : Cluster) → Runs words lines said c → IsTold said c }
+{}
+
+/// The asks of a run are numbered one by one, so no two have one number, and the world's laws hold of the run: at each moment each
+/// running node's replica is the fold of a prefix of the one log, each answer is right, each acknowledged write has a place of its
+/// own, and each ask was appended at most once.
+pub fn each_run_is_kept()
+    ensures { (words : List ℕ) (lines : List Line) (said : List Said) (c : Cluster) → Runs words lines said c → AreKept c }
+{
+    rq_world::laws::each_moment_is_kept();
+    rq_world::laws::each_write_has_its_place();
+    rq_world::laws::each_ask_appends_once();
+}
