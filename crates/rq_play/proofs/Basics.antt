@@ -134,6 +134,31 @@ basic_servers c _ (IsBasic.is_cut cut i) = refl
 basic_servers c _ (IsBasic.is_taken k) = refl
 basic_servers c _ (IsBasic.is_delivered course k i named) = refl
 
+start_first : (course : Course) (c : Cluster) (i : NodeId) (s : NodeState) → (starts course c i s).0.first ≡ c.first
+start_first course c i (Running n) = refl
+start_first course c i (Down kept rest) = by course.fault
+  where
+    by : (f : Fault) → (goes_if c (opening c.first f course i) i (opens c.first f course i (c.extras i) kept rest).0.extra).first ≡ c.first
+    by NoFault = refl
+    by Reading = refl
+    by Storing = refl
+
+stop_first : (c : Cluster) (i : NodeId) (s : NodeState) → (stops c i s).0.first ≡ c.first
+stop_first c i (Running n) = refl
+stop_first c i (Down kept rest) = refl
+
+pub basic_first : (c : Cluster) (w : Spoken) → IsBasic c w → w.0.first ≡ c.first
+basic_first c _ IsBasic.is_nothing = refl
+basic_first c _ (IsBasic.is_shown i named) = refl
+basic_first c _ (IsBasic.is_act course i a plain named) = refl
+basic_first c _ (IsBasic.is_ask course i p op named) = refl
+basic_first c _ (IsBasic.is_start course i named) = start_first course c i (state_in c i)
+basic_first c _ (IsBasic.is_stop i named) = stop_first c i (state_in c i)
+basic_first c _ (IsBasic.is_armed calls pick i) = refl
+basic_first c _ (IsBasic.is_cut cut i) = refl
+basic_first c _ (IsBasic.is_taken k) = refl
+basic_first c _ (IsBasic.is_delivered course k i named) = refl
+
 -- ---- where a line begins: where it stands, or, of the cluster line, where its servers are named
 pub data BeginsAt (c : Cluster) : Cluster → Type 0 where
   is_here : {start : Cluster} → start ≡ c → BeginsAt c start

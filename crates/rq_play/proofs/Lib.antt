@@ -4,3 +4,4 @@ mod Acting
 mod Deciding
 mod Telling
 mod Numbering
+mod Pending

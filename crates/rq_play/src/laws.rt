@@ -5,7 +5,7 @@ ghost use Rattle.rq_play.specs.Line.{Line};
 ghost use Rattle.rq_play.specs.Said.{Said};
 ghost use Rattle.rq_play.specs.Cluster.{Cluster};
 ghost use Rattle.rq_play.specs.Runs.{Runs};
-ghost use Rattle.rq_play.specs.Promise.{EachActIsAtOne, EachStartIsAtOne, EachStopIsAtOne, IsDecided, IsTold, AreKept};
+ghost use Rattle.rq_play.specs.Promise.{EachActIsAtOne, EachStartIsAtOne, EachStopIsAtOne, IsDecided, IsTold, AreKept, IsOpen};
 
 /// An act, a start and a stop at a server change that server alone, as its own definition has it, and send what that says.
 pub fn acts_change_one_server()
@@ -33,4 +33,11 @@ pub fn each_run_is_kept()
     rq_world::laws::each_moment_is_kept();
     rq_world::laws::each_write_has_its_place();
     rq_world::laws::each_ask_appends_once();
+}
+
+/// Each ask that was put and not answered is among those that are unanswered at the end, and these are open in the world's book.
+pub fn pending_asks_are_open()
+    ensures { (words : List ℕ) (lines : List Line) (said : List Said) (c : Cluster) → Runs words lines said c → IsOpen c }
+{
+    rq_world::laws::each_turn_keeps_asks();
 }
