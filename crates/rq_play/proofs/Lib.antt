@@ -5,3 +5,4 @@ mod Deciding
 mod Telling
 mod Numbering
 mod Pending
+mod Truth

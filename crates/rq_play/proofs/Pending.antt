@@ -297,7 +297,7 @@ pub record IsBalanced (c : Cluster) : Type 0 where
   pub known : (i : NodeId) → one_of c.servers i ≡ true → one_of (members c.first) i ≡ true
   pub open_asks : IsOpen c
 
-balanced_on : (keeps : (first : List Member) → EachTurnKeepsAsks first) (c : Cluster) (w : Spoken) → IsBalanced c → IsBasic c w → IsBalanced w.0
+pub balanced_on : (keeps : (first : List Member) → EachTurnKeepsAsks first) (c : Cluster) (w : Spoken) → IsBalanced c → IsBasic c w → IsBalanced w.0
 balanced_on keeps c w so_far basic = record {
   apart = ap are_apart (basic_servers c w basic) ∙ so_far.apart;
   known = λ i named. subst (λ (f : List Member). one_of (members f) i ≡ true) (sym (basic_first c w basic)) (so_far.known i (ap (λ (ids : List NodeId). one_of ids i) (sym (basic_servers c w basic)) ∙ named));
@@ -360,7 +360,7 @@ nothing_open : (ids : List NodeId) (x : ℕ) → total x (λ j. 0) ids ≡ 0
 nothing_open [] x = refl
 nothing_open (i ∷ ids) x = let h = nothing_open ids x in omega (arith, h)
 
-begins_balanced : (c start : Cluster) → IsBalanced c → BeginsAt c start → IsBalanced start
+pub begins_balanced : (c start : Cluster) → IsBalanced c → BeginsAt c start → IsBalanced start
 begins_balanced c start so_far (BeginsAt.is_here same) = subst IsBalanced (sym same) so_far
 begins_balanced c start so_far (BeginsAt.names ids none can same) =
     let allowed = (and_true (is_allowed ids) (is_first c.run) can).0 in

@@ -233,10 +233,14 @@ abbrev pub numbered : Cluster → ℕ → Option Plan
 numbered c zero = None
 numbered c (suc k) = when (is_some (slice_get (now c).sent k)) (one_step c (λ course d. delivers course d k (slice_get (now d).sent k)))
 
+-- each step starts the next of the servers
+abbrev pub starts_all : Cluster → List NodeId → Plan
+starts_all c ids = record { start = named c ids; count = length ids; step = λ course k d. starts_next course d (slice_get d.servers k) }
+
 -- before the cluster line only that line can stand, and lines that are skipped
 abbrev pub before_cluster : Cluster → Line → Option Plan
 before_cluster c Skip = Some (no_step c)
-before_cluster c (ClusterLine ids) = when (can_name c ids) (record { start = named c ids; count = length ids; step = λ course k d. starts_next course d (slice_get d.servers k) })
+before_cluster c (ClusterLine ids) = when (can_name c ids) (starts_all c ids)
 before_cluster c (At i action) = None
 before_cluster c (Deliver number) = None
 before_cluster c (RunLine times) = None

@@ -5,7 +5,7 @@ ghost use Rattle.rq_play.specs.Line.{Line};
 ghost use Rattle.rq_play.specs.Said.{Said};
 ghost use Rattle.rq_play.specs.Cluster.{Cluster};
 ghost use Rattle.rq_play.specs.Runs.{Runs};
-ghost use Rattle.rq_play.specs.Promise.{EachActIsAtOne, EachStartIsAtOne, EachStopIsAtOne, IsDecided, IsTold, AreKept, IsOpen};
+ghost use Rattle.rq_play.specs.Promise.{EachActIsAtOne, EachStartIsAtOne, EachStopIsAtOne, IsDecided, IsTold, AreKept, IsOpen, AreSo};
 
 /// An act, a start and a stop at a server change that server alone, as its own definition has it, and send what that says.
 pub fn acts_change_one_server()
@@ -38,6 +38,13 @@ pub fn each_run_is_kept()
 /// Each ask that was put and not answered is among those that are unanswered at the end, and these are open in the world's book.
 pub fn pending_asks_are_open()
     ensures { (words : List ℕ) (lines : List Line) (said : List Said) (c : Cluster) → Runs words lines said c → IsOpen c }
+{
+    rq_world::laws::each_turn_keeps_asks();
+}
+
+/// What a run's lines say of a server was so at some moment of the run: that it is up as this node, that it is down, how it is shown.
+pub fn what_is_said_is_so()
+    ensures { (words : List ℕ) (lines : List Line) (said : List Said) (c : Cluster) → Runs words lines said c → AreSo said c }
 {
     rq_world::laws::each_turn_keeps_asks();
 }
