@@ -1,6 +1,6 @@
 -- Asks are numbered one by one, so no two have one number.
 use Rattle.std.proofs.Common.{◌≡◌, ◌≢◌, ◌≤◌, ◌<◌, ℕ, zero, suc, ◌+◌, nat_eq, if◌then◌else◌, Bool, true, false, cond, Option, Some, None, List, [], ◌∷◌, ◌++◌, length, refl, sym, ap, ◌∙◌, subst, arith}
-use Rattle.std.specs.Prelude.{⊤}
+use Rattle.std.specs.Prelude.{⊤, slice_get}
 use Rattle.std.proofs.lemmas.Bool.Decides.{nat_tests}
 use Rattle.std.proofs.lemmas.List.{append-nil}
 use Rattle.rq_wire.specs.declared.config.Member.{Member}
@@ -9,7 +9,9 @@ use Rattle.rq_request.specs.declared.say.Answer.{Answer}
 use Rattle.rq_world.specs.Node.{Node, Turn}
 use Rattle.rq_world.specs.World.{NodeState, Running, Down, Act, Note, Op, Event, Asked, Answered, place_of}
 use Rattle.rq_world.specs.World as world
-use Rattle.rq_world.specs.Promise.{op_of, number_of, asked_in, IsNew, IsNumbered}
+use Rattle.rq_world.specs.Promise.{op_of, number_of, asked_in, IsNew, IsNumbered, IsAcknowledged}
+use Rattle.rq_world.specs.Appends.{WritesHavePlaces}
+use Rattle.rq_play.specs.Promise.{HavePlaces}
 use Rattle.rq_play.specs.Line.{Line}
 use Rattle.rq_play.specs.Said.{Said, said_notes, notes_of, gave}
 use Rattle.rq_play.specs.Said as said
@@ -50,6 +52,45 @@ none_above last most number (Asked k id op ∷ book) (is, rest) above = by (nat_
     by false e h = h
     by true e h = let low = below k most book rest in let same : k ≡ number = grind (arith, nat_tests, e) in absurd (omega (arith, low, same, above))
 none_above last most number (Answered k say place ∷ book) is above = none_above last most number book is above
+
+-- a number that was put is above those before it
+put_above : (last most number k : ℕ) (id : NodeId) (op : Op) (book : List Note) → AreNumbered last book most → slice_get book k ≡ Some (Asked number id op) → last < number
+put_above last most number k id op [] is at = absurd (cc)
+put_above last most number zero id op (Asked j home o ∷ book) (is, rest) at = let same : j ≡ number = ap number_in at in omega (arith, is, same)
+  where
+    number_in : Option Note → ℕ
+    number_in None = 0
+    number_in (Some (Asked j home o)) = j
+    number_in (Some (Answered j say place)) = j
+put_above last most number (suc k) id op (Asked j home o ∷ book) (is, rest) at = let h = put_above j most number k id op book rest at in omega (arith, is, h)
+put_above last most number zero id op (Answered j say place ∷ book) is at = absurd (cc)
+put_above last most number (suc k) id op (Answered j say place ∷ book) is at = put_above last most number k id op book is at
+
+-- what an ask was put for is what its number is for
+put_for : (last most number k : ℕ) (id : NodeId) (op : Op) (book : List Note) → AreNumbered last book most → slice_get book k ≡ Some (Asked number id op) → op_of book number ≡ Some op
+put_for last most number k id op [] is at = absurd (cc)
+put_for last most number zero id op (Asked j home o ∷ book) is at = let same : j ≡ number = ap number_in at in let equal : nat_eq j number ≡ true = grind (arith, nat_tests, same) in ap (λ (b : Bool). if b then Some o else op_of book number) equal ∙ ap op_in at
+  where
+    number_in : Option Note → ℕ
+    number_in None = 0
+    number_in (Some (Asked j home o)) = j
+    number_in (Some (Answered j say place)) = j
+
+    op_in : Option Note → Option Op
+    op_in None = None
+    op_in (Some (Asked j home o)) = Some o
+    op_in (Some (Answered j say place)) = None
+put_for last most number (suc k) id op (Asked j home o ∷ book) (is, rest) at =
+    let low = put_above j most number k id op book rest at in
+    let differs : nat_eq j number ≡ false = grind (arith, nat_tests, low) in
+    ap (λ (b : Bool). if b then Some o else op_of book number) differs ∙ put_for j most number k id op book rest at
+put_for last most number zero id op (Answered j say place ∷ book) is at = absurd (cc)
+put_for last most number (suc k) id op (Answered j say place ∷ book) is at = put_for last most number k id op book is at
+
+-- an acknowledged write has its place
+pub have_places : (c : Cluster) → AreNumbered 0 (now c).book c.asks → WritesHavePlaces c.first c.run → HavePlaces c
+have_places c numbered places put answered index a =
+    places.placed answered a.number index a.say a.is_answered (subst (λ (o : Option Op). IsAcknowledged o a.say) (sym (put_for 0 c.asks a.number put a.id a.op (now c).book numbered a.is_put)) a.acknowledges)
 
 -- ---- acts
 

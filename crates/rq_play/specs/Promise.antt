@@ -1,12 +1,18 @@
 -- What each run of a script's lines promises. docs/RAFT.md, "What a run promises".
-use Rattle.std.specs.Prelude.{◌≡◌, ◌≢◌, ◌⊎◌, ◌++◌, ℕ, true, Some, List, [], slice_get, ⊤}
+use Rattle.std.specs.Prelude.{◌≡◌, ◌≢◌, ◌⊎◌, ◌++◌, ℕ, true, Option, Some, List, [], take, slice_get, ⊤}
 use Rattle.rq_history.specs.History.{NodeId}
 use Rattle.rq_raft.specs.Node.{Packet, StoredRecord, Persistent, one_of}
 use Rattle.rq_world.specs.declared.log_entry.LogEntry.{LogEntry}
 use Rattle.rq_world.specs.Node.{Node, persistent_of, members}
-use Rattle.rq_world.specs.Promise.{IsNumbered, Keeps}
-use Rattle.rq_world.specs.Appends.{AsksAppendOnce, WritesHavePlaces}
-use Rattle.rq_world.specs.World.{NodeState, Act, IsPast, Running, Down}
+use Rattle.rq_statement.specs.declared.item.Item.{Item}
+use Rattle.rq_statement.specs.declared.res.Res.{Res}
+use Rattle.rq_request.specs.declared.ask.Level.{Level}
+use Rattle.rq_request.specs.declared.say.Say.{Say}
+use Rattle.rq_request.specs.declared.say.Say.TheVariants.{Results}
+use Rattle.rq_world.specs.Covers.{Covers, IsPlaced}
+use Rattle.rq_world.specs.Promise.{op_of, IsReadRight, IsNumbered, Keeps}
+use Rattle.rq_world.specs.Appends.{AsksAppendOnce, HasPlace, WritesHavePlaces}
+use Rattle.rq_world.specs.World.{NodeState, Act, IsPast, Running, Down, Op, Read, Answered, chosen}
 use Rattle.rq_world.specs.World as world
 use Rattle.rq_play.specs.Line.{Line}
 use Rattle.rq_play.specs.Said.{Said, Up, Down as WentDown, Put, Gave, Shown, notes_of}
@@ -14,7 +20,7 @@ use Rattle.rq_play.specs.Server.{Server, Course, gone_down, opens}
 use Rattle.rq_play.specs.Cluster.{Cluster, now, server_in, state_in, Prepared, acts, moved_in, starts, stops, is_running}
 use Rattle.rq_play.specs.Reading.{IsReadIn}
 use Rattle.rq_play.specs.Runs.{Steps, IsOutside, unanswered}
-use Rattle.rq_play.specs.Book.{AreNumbered, AreOpen}
+use Rattle.rq_play.specs.Book.{AreNumbered, AreOpen, IsAcknowledgedAt}
 
 -- ---- one act
 
@@ -73,14 +79,35 @@ IsSo c (Gave number say place) = ⊤
 abbrev pub AreSo : List Said → Cluster → Type 0
 AreSo said c = (k : ℕ) (s : Said) → slice_get said k ≡ Some s → IsSo c s
 
--- no two asks have one number; each running node is a replica of a prefix of the one log, and each answer is right; each acknowledged
--- write has a place of its own; each ask was appended at most once
+-- two answers to one ask are one note
+abbrev pub AreAnsweredOnce : Cluster → Type 0
+AreAnsweredOnce c = (j k number place other : ℕ) (say more : Say) → slice_get (now c).book j ≡ Some (Answered number say place) → slice_get (now c).book k ≡ Some (Answered number more other) → j ≡ k
+
+-- what an answer answers was put before it
+abbrev pub AreBehind : Cluster → Type 0
+AreBehind c = (k number place : ℕ) (say : Say) → slice_get (now c).book k ≡ Some (Answered number say place) → (op : Op) × (op_of (take k (now c).book) number ≡ Some op)
+
+-- each acknowledged write has its place: the index at which it was acknowledged, and a position in the entry there
+abbrev pub HavePlaces : Cluster → Type 0
+HavePlaces c = (put answered index : ℕ) (a : IsAcknowledgedAt (now c).book put answered index) → (position : ℕ) × HasPlace c.first c.run a.number index position
+
+-- No two asks have one number. Each running node is a replica of a prefix of the one log, and each answer is right. Each acknowledged
+-- write has a place, and no two have one. Each ask was appended at most once, put before it was answered, and answered once.
 pub record AreKept (c : Cluster) : Type 0 where
   pub numbered : AreNumbered 0 (now c).book c.asks
   pub apart : IsNumbered c.first c.run
   pub keeps : Keeps c.first c.run
   pub places : WritesHavePlaces c.first c.run
+  pub acknowledged : HavePlaces c
   pub appends : AsksAppendOnce c.first c.run
+  pub behind : AreBehind c
+  pub once : AreAnsweredOnce c
+
+-- each read that was answered with results
+abbrev pub ReadsCover : Cluster → Type 0
+ReadsCover c = (k number place : ℕ) (results : List Res) (items : List Item) (level : Level) (limit : Option ℕ)
+    → slice_get (now c).book k ≡ Some (Answered number (Results results) place) → op_of (now c).book number ≡ Some (Read items level limit)
+    → IsReadRight c.first (chosen c.first c.run) level place items results × Covers (now c).book number level place × IsPlaced c.first c.run k number place results (Read items level limit) level
 
 -- what is unanswered is what the book has open
 abbrev pub IsOpen : Cluster → Type 0

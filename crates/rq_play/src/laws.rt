@@ -5,7 +5,7 @@ ghost use Rattle.rq_play.specs.Line.{Line};
 ghost use Rattle.rq_play.specs.Said.{Said};
 ghost use Rattle.rq_play.specs.Cluster.{Cluster};
 ghost use Rattle.rq_play.specs.Runs.{Runs};
-ghost use Rattle.rq_play.specs.Promise.{EachActIsAtOne, EachStartIsAtOne, EachStopIsAtOne, IsDecided, IsTold, AreKept, IsOpen, AreSo};
+ghost use Rattle.rq_play.specs.Promise.{EachActIsAtOne, EachStartIsAtOne, EachStopIsAtOne, IsDecided, IsTold, AreKept, ReadsCover, IsOpen, AreSo};
 
 /// An act, a start and a stop at a server change that server alone, as its own definition has it, and send what that says.
 pub fn acts_change_one_server()
@@ -26,13 +26,21 @@ pub fn answers_are_told()
 
 /// The asks of a run are numbered one by one, so no two have one number, and the world's laws hold of the run: at each moment each
 /// running node's replica is the fold of a prefix of the one log, each answer is right, each acknowledged write has a place of its
-/// own, and each ask was appended at most once.
+/// own, each ask was appended at most once, and is answered behind its note, and once.
 pub fn each_run_is_kept()
     ensures { (words : List ℕ) (lines : List Line) (said : List Said) (c : Cluster) → Runs words lines said c → AreKept c }
 {
     rq_world::laws::each_moment_is_kept();
     rq_world::laws::each_write_has_its_place();
     rq_world::laws::each_ask_appends_once();
+    rq_world::laws::each_ask_is_answered_once();
+}
+
+/// Each answer to a read with results is its queries' value on a prefix of the one log, and sees what its level promises.
+pub fn each_read_covers()
+    ensures { (words : List ℕ) (lines : List Line) (said : List Said) (c : Cluster) → Runs words lines said c → ReadsCover c }
+{
+    rq_world::laws::each_read_covers();
 }
 
 /// Each ask that was put and not answered is among those that are unanswered at the end, and these are open in the world's book.

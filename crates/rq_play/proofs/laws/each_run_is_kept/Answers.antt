@@ -1,13 +1,17 @@
-use Rattle.rq_play.proofs.Numbering.{runs_are_counted}
+use Rattle.rq_play.proofs.Numbering.{runs_are_counted, have_places}
 use Rattle.rq_play.proofs.laws.each_run_is_kept.Goals as goal
 
 pub returns : goal.returns
 returns c = λ words lines said cluster run.
     let counted = runs_are_counted words lines said cluster run in
+    let places = c.each_write_has_its_place.ensures cluster.first cluster.run counted.apart in
     record {
       numbered = counted.numbered;
       apart = counted.apart;
       keeps = c.each_moment_is_kept.ensures cluster.first cluster.run counted.apart;
-      places = c.each_write_has_its_place.ensures cluster.first cluster.run counted.apart;
+      places = places;
+      acknowledged = have_places cluster counted.numbered places;
       appends = c.each_ask_appends_once.ensures cluster.first cluster.run counted.apart;
+      behind = (c.each_ask_is_answered_once.ensures cluster.first).1 cluster.run counted.apart;
+      once = (c.each_ask_is_answered_once.ensures cluster.first).0 cluster.run counted.apart;
     }
