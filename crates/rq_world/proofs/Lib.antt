@@ -17,4 +17,5 @@ mod Appending
 mod Placing
 mod Counting
 mod Once
+mod Ahead
 mod Examples

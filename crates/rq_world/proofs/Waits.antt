@@ -160,10 +160,10 @@ module _ (first : List Member) (book : List Note) (log : List LogEntry) (term in
 
 -- ---- what waits stands in rising order of places
 
-abbrev Above : Waiting → Waiting → Type 0
+abbrev pub Above : Waiting → Waiting → Type 0
 Above w v = (w.index < v.index) ⊎ ((w.index ≡ v.index) × (w.position < v.position))
 
-abbrev AllAbove : Waiting → List Waiting → Type 0
+abbrev pub AllAbove : Waiting → List Waiting → Type 0
 AllAbove w [] = ⊤
 AllAbove w (v ∷ vs) = Above w v × AllAbove w vs
 
