@@ -1,4 +1,4 @@
-//! Why a body gives no list of statements.
+//! Why a body lists no statements, or names no server.
 ghost use Rattle.std.specs.Prelude.{◌≡◌, ◌++◌, OnOk, OnErr};
 ghost use Rattle.rq_bodies.specs.ErrorText.{error_status, error_text};
 ghost use Rattle.rq_bodies.specs.declared.error.BodyError.TheVariants.{TooMany, BadStatement, BadValue};
@@ -6,7 +6,8 @@ ghost use Rattle.rq_bodies.specs.declared.error.BodyError.TheVariants.{TooMany, 
 use rq_values::NoMemory;
 use std::alloc::Global;
 
-/// Why a body gives no list of statements, in the order in which this is looked at; of the last two the first by place.
+/// Why a body lists no statements, in the order in which this is looked at, of statements and values the first by place; or
+/// names no server.
 #[derive(Clone, Copy)]
 pub enum BodyError {
     /// It is no UTF-8 that spells one JSON value.
@@ -19,6 +20,8 @@ pub enum BodyError {
     BadStatement(u64),
     /// The statement of this number and its value of that number, each from 1.
     BadValue(u64, u64),
+    /// The object of a join or a removal names no server.
+    BadMember,
     NoMemory,
 }
 
@@ -44,6 +47,7 @@ impl BodyError {
             BodyError::TooMany(count) => append_count(alloc, count, into),
             BodyError::BadStatement(k) => append_statement(alloc, k, into),
             BodyError::BadValue(k, j) => append_value(alloc, k, j, into),
+            BodyError::BadMember => append(b"bad member", into),
             BodyError::NoMemory => append(b"out of memory", into),
         }
     }

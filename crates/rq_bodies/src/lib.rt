@@ -2,7 +2,9 @@
 #![tactic(auto)]
 
 mod error;
+mod member;
 mod parsing;
 
 pub use error::BodyError;
+pub use member::{parse_join, parse_remove};
 pub use parsing::parse_list;

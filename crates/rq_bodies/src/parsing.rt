@@ -33,7 +33,7 @@ fn parsed(alloc: Global, body: &[u8]) -> Result<Result<Seq<Statement>, BodyError
 }
 
 /// The JSON value that the body spells, or None exactly where it spells none.
-fn json_of(alloc: Global, body: &[u8]) -> Result<Option<Json>, NoMemory>
+pub fn json_of(alloc: Global, body: &[u8]) -> Result<Option<Json>, NoMemory>
     ensures { IfOk result (λ value. option_map view value ≡ spec.json_of body.now) }
 {
     match Json::from_slice(alloc, body) {

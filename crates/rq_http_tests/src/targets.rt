@@ -1,5 +1,6 @@
 //! What targets ask for, and how they are refused.
-use rq_route::{Level, Path, Request, Routed, route};
+use rq_request::Level;
+use rq_route::{Path, Request, Routed, route};
 use rq_values::NoMemory;
 use std::alloc::Global;
 use std::test::Fail;
@@ -130,8 +131,10 @@ fn path_name(path: Path) -> &'static [u8] {
 
 fn level_name(level: Level) -> &'static [u8] {
     match level {
-        Level::Local => b" none ",
+        Level::None => b" none ",
         Level::Weak => b" weak ",
+        Level::Linearizable => b" linearizable ",
+        Level::Strong => b" strong ",
     }
 }
 

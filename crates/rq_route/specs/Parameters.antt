@@ -7,8 +7,8 @@ use Rattle.form_urlencoded.specs.Form.{decode, raw_pairs}
 use Rattle.rq_values.specs.Text.{is_text}
 use Rattle.rq_route.specs.Paths.{takes_level, takes_queue}
 use Rattle.rq_route.specs.declared.path.Path.{Path}
-use Rattle.rq_route.specs.declared.parameters.Level.{Level}
-use Rattle.rq_route.specs.declared.parameters.Level.TheVariants as level
+use Rattle.rq_request.specs.declared.ask.Level.{Level}
+use Rattle.rq_request.specs.declared.ask.Level.TheVariants as level
 use Rattle.rq_route.specs.declared.parameters.Given.{Given}
 use Rattle.rq_route.specs.declared.parameters.Key.{Key}
 use Rattle.rq_route.specs.declared.parameters.Key.TheVariants as key
@@ -30,7 +30,7 @@ abbrev pub is_on : List ℕ → List ℕ → Bool
 is_on name query = is_some (value_of name query)
 
 abbrev pub level_named : List ℕ → Option Level
-level_named name = if bytes_eq name (codes "none") then Some level.Local else (if bytes_eq name (codes "weak") then Some level.Weak else None)
+level_named name = if bytes_eq name (codes "none") then Some level.None else (if bytes_eq name (codes "weak") then Some level.Weak else None)
 
 -- weak, where none is named
 abbrev pub level_of : Option (List ℕ) → Option Level

@@ -3,8 +3,8 @@ use Rattle.std.specs.Prelude.{ℕ, List, ◌&&◌, Option, Some, None, if◌then
 use Rattle.rq_route.specs.declared.path.Path.{Path}
 use Rattle.rq_route.specs.declared.parameters.Given.{Given}
 use Rattle.rq_route.specs.declared.parameters.Key.{Key}
-use Rattle.rq_route.specs.declared.parameters.Level.{Level}
-use Rattle.rq_route.specs.declared.parameters.Level.TheVariants.{Weak}
+use Rattle.rq_request.specs.declared.ask.Level.{Level}
+use Rattle.rq_request.specs.declared.ask.Level.TheVariants.{Weak}
 use Rattle.rq_route.specs.declared.request.Request.{Request}
 use Rattle.rq_route.specs.declared.routing.Routed.{Routed}
 use Rattle.rq_route.specs.declared.routing.Routed.TheVariants.{Taken, Refused}

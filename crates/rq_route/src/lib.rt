@@ -11,8 +11,8 @@ mod request;
 mod routing;
 mod target;
 
-pub use parameters::{Key, Level};
+pub use parameters::Key;
 pub use path::Path;
 pub use refusal::Refusal;
-pub use request::{Request, Shape};
+pub use request::Request;
 pub use routing::{Routed, route};

@@ -5,20 +5,12 @@ ghost use Rattle.rq_route.specs.Parameters.{value_of, is_on, level_named, level_
 use crate::duration::duration;
 use crate::path::Path;
 use form_urlencoded::{decode, raw_pairs};
+use rq_request::Level;
 use rq_values::{NoMemory, Text};
 use std::alloc::Global;
 
 /// The milliseconds that a request waits at most, where it says nothing of it.
 pub const DEFAULT_TIMEOUT: u64 = 10_000;
-
-/// How fresh the answer to a read is to be.
-#[derive(Clone, Copy, Drop)]
-pub enum Level {
-    /// `none`: of the node's own database.
-    Local,
-    /// `weak`: of a node that leads in its own eyes.
-    Weak,
-}
 
 /// A parameter.
 #[derive(Clone, Copy, Drop)]
@@ -78,7 +70,7 @@ fn level_named(name: &[u8]) -> Option<Level>
     ensures { result ≡ level_named name.now }
 {
     if name == b"none".as_slice() {
-        Some(Level::Local)
+        Some(Level::None)
     } else if name == b"weak".as_slice() {
         Some(Level::Weak)
     } else {

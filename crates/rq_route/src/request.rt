@@ -2,18 +2,10 @@
 ghost use Rattle.std.specs.Prelude.{◌≡◌};
 ghost use Rattle.rq_route.specs.Routing.{level_at, timeout_in, request_of};
 
-use crate::parameters::{DEFAULT_TIMEOUT, Given, Level};
+use crate::parameters::{DEFAULT_TIMEOUT, Given};
 use crate::path::Path;
+use rq_request::{Level, Shape};
 use rq_values::Text;
-
-/// How a reply is to be written.
-#[derive(Clone, Copy, Drop)]
-pub struct Shape {
-    /// Rows as objects, and else as lists.
-    pub associative: bool,
-    /// On several lines with blanks, and else without.
-    pub pretty: bool,
-}
 
 /// What a request asks for, without its body. A parameter that its path doesn't list has no effect.
 #[derive(Drop)]
