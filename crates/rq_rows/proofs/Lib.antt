@@ -1,0 +1,9 @@
+mod Live
+mod Back
+mod Steps
+mod Keys
+mod Largest
+mod Finding
+mod Shown
+mod Walks
+mod Covered

@@ -1,0 +1,5 @@
+pub mod Rows
+pub mod Holding
+pub mod Slots
+pub mod Covering
+pub mod Staged
