@@ -6,3 +6,4 @@ mod Telling
 mod Numbering
 mod Pending
 mod Truth
+mod Applying

@@ -216,7 +216,7 @@ begins_counted c start counted (BeginsAt.names ids none can same) = subst IsCoun
     nothing world.First e h = h
     nothing (world.Then run event) e h = absurd (cc)
 
-step_counted : (c : Cluster) (line : Line) (talk : List Said) (next : Cluster) → Steps c line talk next → IsCounted c → IsCounted next
+pub step_counted : (c : Cluster) (line : Line) (talk : List Said) (next : Cluster) → Steps c line talk next → IsCounted c → IsCounted next
 step_counted c line talk next s counted =
     let w = s.way in
     let start = begins_counted c w.plan.start counted (line_starts w.prepared c line w.plan w.stands) in

@@ -1,5 +1,5 @@
 -- What each run of a script's lines promises. docs/RAFT.md, "What a run promises".
-use Rattle.std.specs.Prelude.{◌≡◌, ◌≢◌, ◌⊎◌, ◌++◌, ℕ, true, Option, Some, List, [], take, slice_get, ⊤}
+use Rattle.std.specs.Prelude.{◌≡◌, ◌≢◌, ◌<◌, ◌⊎◌, ◌++◌, ℕ, true, Option, Some, List, [], take, slice_get, ⊤}
 use Rattle.rq_history.specs.History.{NodeId}
 use Rattle.rq_raft.specs.Node.{Packet, StoredRecord, Persistent, one_of}
 use Rattle.rq_world.specs.declared.log_entry.LogEntry.{LogEntry}
@@ -9,6 +9,7 @@ use Rattle.rq_statement.specs.declared.res.Res.{Res}
 use Rattle.rq_request.specs.declared.ask.Level.{Level}
 use Rattle.rq_request.specs.declared.say.Say.{Say}
 use Rattle.rq_request.specs.declared.say.Say.TheVariants.{Results}
+use Rattle.rq_world.specs.declared.waiting.Waiting.{Waiting}
 use Rattle.rq_world.specs.Covers.{Covers, IsPlaced}
 use Rattle.rq_world.specs.Promise.{op_of, IsReadRight, IsNumbered, Keeps}
 use Rattle.rq_world.specs.Appends.{AsksAppendOnce, HasPlace, WritesHavePlaces}
@@ -108,6 +109,15 @@ abbrev pub ReadsCover : Cluster → Type 0
 ReadsCover c = (k number place : ℕ) (results : List Res) (items : List Item) (level : Level) (limit : Option ℕ)
     → slice_get (now c).book k ≡ Some (Answered number (Results results) place) → op_of (now c).book number ≡ Some (Read items level limit)
     → IsReadRight c.first (chosen c.first c.run) level place items results × Covers (now c).book number level place × IsPlaced c.first c.run k number place results (Read items level limit) level
+
+-- Behind `apply` at a server whose node runs, it runs and has applied all that it had committed, and nothing waits there for an entry
+-- among those: so what waited for one was answered.
+pub record HasApplied (c next : Cluster) (i : NodeId) (n : Node) : Type 0 where
+  pub node : Node
+  pub runs : state_in next i ≡ Running node
+  pub commit : node.raft.commit ≡ n.raft.commit
+  pub applied : node.raft.applied ≡ n.raft.commit
+  pub behind : (k : ℕ) (w : Waiting) → slice_get node.waiting k ≡ Some w → n.raft.commit < w.index
 
 -- what is unanswered is what the book has open
 abbrev pub IsOpen : Cluster → Type 0

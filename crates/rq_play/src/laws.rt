@@ -1,11 +1,14 @@
 //! What holds of each run of a script's lines, each the contract of a function that does nothing when it runs.
 
-ghost use Rattle.std.specs.Prelude.{ℕ, List};
-ghost use Rattle.rq_play.specs.Line.{Line};
+ghost use Rattle.std.specs.Prelude.{◌≡◌, ℕ, List};
+ghost use Rattle.rq_history.specs.History.{NodeId};
+ghost use Rattle.rq_world.specs.Node.{Node};
+ghost use Rattle.rq_world.specs.World.{Running};
+ghost use Rattle.rq_play.specs.Line.{Line, At, Apply};
 ghost use Rattle.rq_play.specs.Said.{Said};
-ghost use Rattle.rq_play.specs.Cluster.{Cluster};
-ghost use Rattle.rq_play.specs.Runs.{Runs};
-ghost use Rattle.rq_play.specs.Promise.{EachActIsAtOne, EachStartIsAtOne, EachStopIsAtOne, IsDecided, IsTold, AreKept, ReadsCover, IsOpen, AreSo};
+ghost use Rattle.rq_play.specs.Cluster.{Cluster, state_in};
+ghost use Rattle.rq_play.specs.Runs.{Runs, Steps};
+ghost use Rattle.rq_play.specs.Promise.{EachActIsAtOne, EachStartIsAtOne, EachStopIsAtOne, IsDecided, IsTold, AreKept, ReadsCover, IsOpen, AreSo, HasApplied};
 
 /// An act, a start and a stop at a server change that server alone, as its own definition has it, and send what that says.
 pub fn acts_change_one_server()
@@ -55,4 +58,12 @@ pub fn what_is_said_is_so()
     ensures { (words : List ℕ) (lines : List Line) (said : List Said) (c : Cluster) → Runs words lines said c → AreSo said c }
 {
     rq_world::laws::each_turn_keeps_asks();
+}
+
+/// Behind an apply line nothing waits at its server for an entry that its node had committed: all such asks were answered.
+pub fn applies_answer_all()
+    ensures { (words : List ℕ) (lines : List Line) (said more : List Said) (c next : Cluster) (i : NodeId) (n : Node) → Runs words lines said c → Steps c (At i Apply) more next → state_in c i ≡ Running n → HasApplied c next i n }
+{
+    rq_world::laws::each_run_is_safe();
+    rq_world::laws::each_wait_is_ahead();
 }

@@ -164,4 +164,4 @@ module _ (g : Given) where
       (omega (arith, len, each_longer all i n r g.first (chosen g.first run) m))
 
   pub are_safe : AreSafe g.first
-  are_safe = record { one_leader = one_leader; logs_match = logs_match; appends_agree = appends_agree; leaders_are_complete = leaders_are_complete; grows = grows; holds = holds }
+  are_safe = record { one_leader = one_leader; logs_match = logs_match; appends_agree = appends_agree; leaders_are_complete = leaders_are_complete; grows = grows; holds = holds; within = λ run i n r. (done run i n r, fits run run (here run) i n r) }

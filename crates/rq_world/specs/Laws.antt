@@ -51,6 +51,10 @@ module _ (first : List Member) where
   abbrev pub OneLogHolds : Type 0
   OneLogHolds = (run : Run) (i : NodeId) (n : Node) → one_of (members first) i ≡ true → Runs run i n → IsPrefixOf (take n.raft.commit n.raft.log) (chosen first run)
 
+  -- what is applied is committed, and what is committed is in the log
+  abbrev pub CommitsAreWithin : Type 0
+  CommitsAreWithin = (run : Run) (i : NodeId) (n : Node) → Runs run i n → (n.raft.applied ≤ n.raft.commit) × (n.raft.commit ≤ length n.raft.log)
+
   pub record AreSafe : Type 0 where
     pub one_leader : OneLeaderATerm
     pub logs_match : LogsMatch
@@ -58,3 +62,4 @@ module _ (first : List Member) where
     pub leaders_are_complete : LeadersAreComplete
     pub grows : OneLogGrows
     pub holds : OneLogHolds
+    pub within : CommitsAreWithin
