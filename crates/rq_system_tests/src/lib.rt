@@ -1,0 +1,5 @@
+//! Each adapter of the system, once.
+#![tactic(auto)]
+
+#[cfg(test)]
+mod tests;
