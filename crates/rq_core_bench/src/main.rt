@@ -12,7 +12,10 @@ use std::io;
 fn main(rt: HostRuntime) -> io::Result<()> {
     let count = count_of(&rt);
     match Cluster::run(rt.alloc(), count) {
-        Some([last, commit, known]) => {
+        Some(ends) => {
+            let last = ends[0];
+            let commit = ends[1];
+            let known = ends[2];
             println!(rt;
                 "{last} entries, {commit} committed by the leader, {known} known to be by the second"
             )

@@ -131,8 +131,8 @@ impl Net {
                 log: Vec::new(alloc),
             };
             self.kept.push(kept)?;
-            self.cores
-                .push(self.started(alloc, node.saturating_add(1), count)?)?;
+            let core = self.started(alloc, node.saturating_add(1), count)?;
+            self.cores.push(core)?;
         }
         Ok(())
     }
