@@ -1,0 +1,9 @@
+//! From a request over HTTP to the ask of a node: docs/API.md, "Requests" and "What a request asks".
+#![tactic(auto)]
+
+mod asking;
+mod preparing;
+mod reading;
+
+pub use asking::ask_of;
+pub use reading::{Defect, Requested, read_request};
