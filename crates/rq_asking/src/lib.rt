@@ -2,8 +2,10 @@
 #![tactic(auto)]
 
 mod asking;
+mod laws;
 mod preparing;
 mod reading;
 
 pub use asking::ask_of;
+pub use laws::each_request_has_one_ask;
 pub use reading::{Defect, Requested, read_request};
