@@ -1,8 +1,9 @@
 -- What the statements of a line are read as, with the random words to come, at a moment.
-use Rattle.std.specs.Prelude.{◌≡◌, ℕ, List, [], ◌∷◌, Option, Some, None}
+use Rattle.std.specs.Prelude.{◌≡◌, ℕ, true, List, [], ◌∷◌, Option, Some, None}
 use Rattle.rq_statement.specs.declared.item.Item.{Item}
 use Rattle.rq_json.specs.Body.{texts_of}
-use Rattle.rq_settle.specs.Prepared.{IsPrepared}
+use Rattle.rq_preparing.specs.Prepared.{IsPrepared}
+use Rattle.rq_request.specs.declared.statement.Params.TheVariants as params
 use Rattle.rq_world.specs.World.{NodeState, Running, Down}
 use Rattle.rq_play.specs.Line.{Action, Elect, Beat, Apply, Execute, Query, Stop, StopWithin, Start, Cut, Heal, Show, Line, Skip, Cluster as ClusterLine, At, Deliver, Run as RunLine}
 use Rattle.rq_play.specs.Cluster.{Cluster, now, state_in, Prepared}
@@ -26,10 +27,9 @@ statements Cut = []
 statements Heal = []
 statements Show = []
 
--- A statement's text is read as this item, at this moment, with the first of these words, and those are left.
--- Parameters, random nodes and time nodes aren't built: no word is taken, and the moment makes no difference.
+-- a statement's text is read as this item, at this moment, with the first of these words, and those are left; no line gives values of parameters yet
 abbrev pub IsReadAs : ℕ → List ℕ → List ℕ → Item → List ℕ → Type 0
-IsReadAs moment words text item left = IsPrepared text item × (left ≡ words)
+IsReadAs moment words text item left = IsPrepared true text params.None moment words left item
 
 -- each text is read as its item, one after the other
 abbrev pub AreReadAs : ℕ → List ℕ → List (List ℕ) → List Item → List ℕ → Type 0
