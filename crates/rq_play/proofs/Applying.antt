@@ -61,6 +61,9 @@ record IsBehind (c : Cluster) (i : NodeId) (n : Node) (count : ℕ) : Type 0 whe
   pub commit : node.raft.commit ≡ n.raft.commit
   pub log : node.raft.log ≡ n.raft.log
 
+next_behind : (i : NodeId) (n between m : Node) (count : ℕ) (d : Cluster) → state_in d i ≡ Running m → IsNext between m → between.raft.applied ≡ n.raft.applied + count → between.raft.commit ≡ n.raft.commit → between.raft.log ≡ n.raft.log → IsBehind d i n (suc count)
+next_behind i n between m count d runs next applied commit log = record { node = m; runs = runs; applied = omega (arith, next.applied, applied); commit = next.commit ∙ commit; log = next.log ∙ log }
+
 ran_applied : (i : NodeId) (c : Cluster) (n : Node) → state_in c i ≡ Running n → n.raft.commit ≤ length n.raft.log → (courses : List Course) → n.raft.applied + length courses ≤ n.raft.commit
     → IsBehind (ran (λ course k d. acts course d i world.Apply) courses c).0 i n (length courses)
 ran_applied i c n is within [] le = record { node = n; runs = is; applied = omega arith; commit = refl; log = refl }
@@ -70,7 +73,7 @@ ran_applied i c n is within (course ∷ earlier) le =
     let less : h.node.raft.applied < h.node.raft.commit = omega (arith, h.applied, h.commit, le) in
     let long : h.node.raft.commit ≤ length h.node.raft.log = subst (λ (l : List LogEntry). h.node.raft.commit ≤ length l) (sym h.log) (omega (arith, h.commit, within)) in
     let s = step_applied course d i h.node h.runs less long in
-    record { node = s.0; runs = s.1; applied = omega (arith, s.2.applied, h.applied); commit = s.2.commit ∙ h.commit; log = s.2.log ∙ h.log }
+    next_behind i n h.node s.0 (length earlier) (acts course d i world.Apply).0 s.1 s.2 h.applied h.commit h.log
 
 -- the plan of an apply line
 abbrev applies : Cluster → NodeId → Plan

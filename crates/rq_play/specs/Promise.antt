@@ -10,6 +10,7 @@ use Rattle.rq_request.specs.declared.ask.Level.{Level}
 use Rattle.rq_request.specs.declared.say.Say.{Say}
 use Rattle.rq_request.specs.declared.say.Say.TheVariants.{Results}
 use Rattle.rq_world.specs.declared.waiting.Waiting.{Waiting}
+use Rattle.rq_world.specs.Origins.{HasAsked}
 use Rattle.rq_world.specs.Covers.{Covers, IsPlaced}
 use Rattle.rq_world.specs.Promise.{op_of, IsReadRight, IsNumbered, Keeps}
 use Rattle.rq_world.specs.Appends.{AsksAppendOnce, HasPlace, WritesHavePlaces}
@@ -93,13 +94,15 @@ abbrev pub HavePlaces : Cluster → Type 0
 HavePlaces c = (put answered index : ℕ) (a : IsAcknowledgedAt (now c).book put answered index) → (position : ℕ) × HasPlace c.first c.run a.number index position
 
 -- No two asks have one number. Each running node is a replica of a prefix of the one log, and each answer is right. Each acknowledged
--- write has a place, and no two have one. Each ask was appended at most once, put before it was answered, and answered once.
+-- write has a place, and no two have one. Each list in a log, of a node that runs or is down, was asked, and each ask was appended at most
+-- once; it was put before it was answered, and answered once.
 pub record AreKept (c : Cluster) : Type 0 where
   pub numbered : AreNumbered 0 (now c).book c.asks
   pub apart : IsNumbered c.first c.run
   pub keeps : Keeps c.first c.run
   pub places : WritesHavePlaces c.first c.run
   pub acknowledged : HavePlaces c
+  pub asked : (i : NodeId) → HasAsked c.first c.run (state_in c i)
   pub appends : AsksAppendOnce c.first c.run
   pub behind : AreBehind c
   pub once : AreAnsweredOnce c

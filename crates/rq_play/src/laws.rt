@@ -29,12 +29,13 @@ pub fn answers_are_told()
 
 /// The asks of a run are numbered one by one, so no two have one number, and the world's laws hold of the run: at each moment each
 /// running node's replica is the fold of a prefix of the one log, each answer is right, each acknowledged write has a place of its
-/// own, each ask was appended at most once, and is answered behind its note, and once.
+/// own, each list in a log was asked, each ask was appended at most once, and is answered behind its note, and once.
 pub fn each_run_is_kept()
     ensures { (words : List ℕ) (lines : List Line) (said : List Said) (c : Cluster) → Runs words lines said c → AreKept c }
 {
     rq_world::laws::each_moment_is_kept();
     rq_world::laws::each_write_has_its_place();
+    rq_world::laws::each_list_was_asked();
     rq_world::laws::each_ask_appends_once();
     rq_world::laws::each_ask_is_answered_once();
 }

@@ -1,9 +1,8 @@
 -- What waits for an entry waits for one that its node hasn't applied.
-use Rattle.std.proofs.Common.{◌≡◌, ◌⊎◌, ◌<◌, ◌≤◌, ℕ, zero, suc, ◌+◌, ◌==◌, ◌&&◌, Bool, true, false, Option, Some, None, List, [], ◌∷◌, length, slice_get, refl, sym, ◌∙◌, ap, subst, inl, inr, ⊎_elim, arith}
+use Rattle.std.proofs.Common.{◌≡◌, ◌⊎◌, ◌<◌, ◌≤◌, ℕ, ◌+◌, ◌==◌, ◌&&◌, true, false, Option, Some, None, List, [], ◌∷◌, length, slice_get, refl, sym, ◌∙◌, ap, subst, inl, inr, ⊎_elim, arith}
 use Rattle.std.specs.Prelude.{nat_lt, nat_le, not, bytes_eq}
 use Rattle.std.proofs.lemmas.Bool.Decides.{nat_tests}
 use Rattle.rq_statement.specs.declared.item.Item.{Item}
-use Rattle.rq_statement.specs.Statements.{Statements}
 use Rattle.rq_statement.specs.Bytes.{command_bytes}
 use Rattle.rq_statement.specs.declared.command.Command.{Command}
 use Rattle.rq_statement.specs.declared.command.Command.TheVariants.{Execute, StrongQuery}
@@ -24,7 +23,7 @@ use Rattle.rq_world.specs.declared.log_entry.LogEntry.{LogEntry}
 use Rattle.rq_world.specs.declared.waiting.Waiting.{Waiting}
 use Rattle.rq_world.specs.Node.{Node, log_entries, Turn, unchanged, says, replica_of}
 use Rattle.rq_world.specs.Reads.{begin, is_stale, limit_of}
-use Rattle.rq_world.specs.Rules.{max_command_bytes, max_queued_bytes, queue_capacity, write_command, enqueued, if_not_full, if_not_too_large, flushed, batch_entry, steps_down, stays_on, raft_turn, reads, counts, with_reads, receive, appended_for, proposed, if_leads, query, begun, read, still_waiting, applied_command, applied_entry}
+use Rattle.rq_world.specs.Rules.{max_command_bytes, max_queued_bytes, queue_capacity, write_command, enqueued, if_not_full, if_not_too_large, flushed, batch_entry, steps_down, stays_on, raft_turn, reads, counts, with_reads, receive, appended_for, proposed, if_leads, query, begun, read, still_waiting, applied_entry}
 use Rattle.rq_world.specs.World.{Op, Write, Queue, Read, Act, Ask, Elect, Beat, Flush, Apply, Compact, Deliver, Tick, Idle, Event, Run as Events, First, Then, world, act}
 use Rattle.rq_world.specs.Laws.{Runs}
 use Rattle.rq_world.specs.Promise.{IsNumbered}
@@ -33,7 +32,7 @@ use Rattle.rq_world.proofs.Tests.{if_case, and_true}
 use Rattle.rq_world.proofs.Given.{Given}
 use Rattle.rq_world.proofs.Safety.{here, done, fits}
 use Rattle.rq_world.proofs.Waits.{Ascends, AllAbove}
-use Rattle.rq_world.proofs.Answering.{HasWaiting, has_at, WaitingFrom, Gives, act_gives}
+use Rattle.rq_world.proofs.Answering.{HasWaiting, has_at, WaitingFrom, act_gives}
 use Rattle.rq_world.proofs.Promises.{Sound, sound}
 use Rattle.rq_world.proofs.Passes.{Known}
 use Rattle.rq_world.proofs.Covering.{Acted, Still, kind, t, who_runs}

@@ -18,4 +18,6 @@ mod Placing
 mod Counting
 mod Once
 mod Ahead
+mod Sources
+mod Origins
 mod Examples

@@ -9,3 +9,4 @@ pub mod Covers
 pub mod Appends
 pub mod Answers
 pub mod Asks
+pub mod Origins

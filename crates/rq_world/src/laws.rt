@@ -7,6 +7,7 @@ ghost use Rattle.rq_world.specs.Appends.{EachAskAppendsOnce, EachWriteHasItsPlac
 ghost use Rattle.rq_world.specs.Asks.{EachTurnKeepsAsks, EachWaitIsAhead};
 ghost use Rattle.rq_world.specs.Covers.{EachReadCovers};
 ghost use Rattle.rq_world.specs.Laws.{AreSafe};
+ghost use Rattle.rq_world.specs.Origins.{EachListWasAsked};
 ghost use Rattle.rq_world.specs.Passes.{PassCovers, PassCoversAcknowledged};
 ghost use Rattle.rq_world.specs.Promise.{EachMomentIsKept};
 
@@ -152,6 +153,26 @@ pub fn each_turn_keeps_asks()
 /// What waits for an entry waits for one that its node hasn't applied: behind an apply nothing waits for what is applied.
 pub fn each_wait_is_ahead()
     ensures { (first : List Member) → EachWaitIsAhead first }
+{
+    rq_raft::laws::turns_are_moves::<LogEntry>();
+    rq_raft::laws::leaders_lead_on::<LogEntry>();
+    rq_raft::laws::probes_are_kept::<LogEntry>();
+    rq_history::laws::one_leader::<LogEntry>();
+    rq_history::laws::logs_match::<LogEntry>();
+    rq_history::laws::leaders_grow::<LogEntry>();
+    rq_history::laws::commits_are_backed::<LogEntry>();
+    rq_history::laws::committed_stays::<LogEntry>();
+    rq_history::laws::committed_prefixes_agree::<LogEntry>();
+    rq_history::laws::moments_are_ordered::<LogEntry>();
+    rq_history::laws::time_goes_on::<LogEntry>();
+    rq_history::laws::leaders_do_not_stand_again::<LogEntry>();
+    rq_history::laws::leaders_cover::<LogEntry>();
+}
+
+/// Each list in the log of a node, running or down, was asked, answered or not: its entry is the one that the rule for that ask, or
+/// for a flush with it, appended at that index.
+pub fn each_list_was_asked()
+    ensures { (first : List Member) → EachListWasAsked first }
 {
     rq_raft::laws::turns_are_moves::<LogEntry>();
     rq_raft::laws::leaders_lead_on::<LogEntry>();

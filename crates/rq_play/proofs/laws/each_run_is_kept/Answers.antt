@@ -11,6 +11,7 @@ returns c = λ words lines said cluster run.
       keeps = c.each_moment_is_kept.ensures cluster.first cluster.run counted.apart;
       places = places;
       acknowledged = have_places cluster counted.numbered places;
+      asked = c.each_list_was_asked.ensures cluster.first cluster.run;
       appends = c.each_ask_appends_once.ensures cluster.first cluster.run counted.apart;
       behind = (c.each_ask_is_answered_once.ensures cluster.first).1 cluster.run counted.apart;
       once = (c.each_ask_is_answered_once.ensures cluster.first).0 cluster.run counted.apart;
