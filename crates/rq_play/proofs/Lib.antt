@@ -7,3 +7,4 @@ mod Numbering
 mod Pending
 mod Truth
 mod Applying
+mod Examples
