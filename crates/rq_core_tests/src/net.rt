@@ -78,6 +78,20 @@ fn line_of(packet: &Outgoing) -> Line {
     }
 }
 
+/// The entries of a packet, lent by its sender.
+fn entries_of<'a>(core: &'a Core<Entry>, packet: &Outgoing) -> &'a [Entry] {
+    match packet.saying {
+        Saying::Append {
+            prev,
+            prev_term: _,
+            commit: _,
+            probe: _,
+            count,
+        } => core.entries_of(prev, count),
+        _ => core.entries_of(0, 0),
+    }
+}
+
 /// Nodes and what they have stored, every packet that was sent, and what came of the last events.
 pub struct Net {
     pub cores: Vec<Core<Entry>>,
@@ -211,18 +225,14 @@ impl Net {
                 .push((What::Stores, 0, [from, count as u64, 0, 0]))?;
         }
         for packet in moves.packets.as_slice() {
-            let entries = match packet.saying {
-                Saying::Append {
-                    prev,
-                    prev_term: _,
-                    commit: _,
-                    probe: _,
-                    count,
-                } => core.entries_of(prev, count),
-                _ => core.entries_of(0, 0),
-            };
             let mut bytes = Vec::new(alloc);
-            encode_outgoing(packet, entries, &mut bytes)?;
+            match encode_outgoing(packet, entries_of(core, packet), &mut bytes) {
+                Ok(()) => {}
+                Err(error) => {
+                    drop(bytes);
+                    return Err(error.into());
+                }
+            }
             self.packets.push(bytes)?;
             self.seen.push(line_of(packet))?;
         }
@@ -237,8 +247,13 @@ impl Net {
             .ok_or("no packet")?;
         let packet = decode_packet::<Entry>(alloc, bytes)?;
         let node = node_of(packet.to);
-        let core = self.cores.get_mut(node.saturating_sub(1)).ok_or("no node")?;
-        let moves = core.deliver(packet, 0)?;
+        let moves = match self.cores.get_mut(node.saturating_sub(1)) {
+            Some(core) => core.deliver(packet, 0)?,
+            None => {
+                drop(packet);
+                return Err("no node".into());
+            }
+        };
         let took = self.took(alloc, node, &moves);
         drop(moves);
         took?;

@@ -71,16 +71,6 @@ fn passes(core: &mut Core<Entry>) -> Result<[bool; 3], Fail> {
     Ok([before, early, ready(core, &pass)])
 }
 
-#[test]
-fn a_pass_counts_later_replies(rt: HostRuntime) -> Result<(), Fail> {
-    let mut net = led(rt.alloc())?;
-    let core = net.cores.get_mut(0).ok_or("no node")?;
-    let outcome = passes(core);
-    drop(net);
-    assert_eq!(rt; outcome?, [false, false, true]);
-    Ok(())
-}
-
 /// Whether a follower heard of its leader lately enough, with limits, at moment 10.
 fn are_fresh(net: &Net) -> Result<[bool; 3], Fail> {
     let core = net.cores.get(1).ok_or("no node")?;
@@ -89,15 +79,6 @@ fn are_fresh(net: &Net) -> Result<[bool; 3], Fail> {
         freshness(core, Some(9), 10).is_ok(),
         freshness(core, Some(0), 10).is_ok(),
     ])
-}
-
-#[test]
-fn a_follower_is_fresh_within_the_limit(rt: HostRuntime) -> Result<(), Fail> {
-    let net = led(rt.alloc())?;
-    let fresh = are_fresh(&net);
-    drop(net);
-    assert_eq!(rt; fresh?, [true, false, true]);
-    Ok(())
 }
 
 /// How a copy stands, and how much it has applied after it was to apply more than is committed.
@@ -109,13 +90,22 @@ fn copied(alloc: Global, core: &Core<Entry>) -> Result<[u64; 4], Fail> {
     Ok(stands)
 }
 
+/// All of it: passes, freshness, a copy, and what its source has applied.
+fn outcomes(alloc: Global, net: &mut Net) -> Result<([bool; 3], [bool; 3], [u64; 4], u64), Fail> {
+    let fresh = are_fresh(net)?;
+    let leader = net.cores.get_mut(0).ok_or("no node")?;
+    let passes = passes(leader)?;
+    let stands = copied(alloc, leader)?;
+    Ok((passes, fresh, stands, leader.applied()))
+}
+
+/// A pass counts replies to what was sent with it or later; a follower is fresh within a limit; a copy stands alike.
 #[test]
-fn a_copy_stands_alike(rt: HostRuntime) -> Result<(), Fail> {
+fn reads_and_copies(rt: HostRuntime) -> Result<(), Fail> {
     let mut net = led(rt.alloc())?;
-    let core = net.cores.get_mut(0).ok_or("no node")?;
-    let outcome = reply(core, 2, 1).and_then(|_| copied(rt.alloc(), core));
-    let applied = core.applied();
+    let outcomes = outcomes(rt.alloc(), &mut net);
     drop(net);
-    assert_eq!(rt; (outcome?, applied), ([1, 1, 1, 1], 0));
+    let expected = ([false, false, true], [true, false, true], [1, 1, 1, 1], 0);
+    assert!(rt; outcomes? == expected);
     Ok(())
 }
