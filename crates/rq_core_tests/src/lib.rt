@@ -3,6 +3,8 @@
 #![tactic(auto)]
 
 #[cfg(test)]
+mod following;
+#[cfg(test)]
 mod kept;
 #[cfg(test)]
 mod line;

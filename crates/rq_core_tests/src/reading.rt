@@ -1,4 +1,5 @@
 //! Reads by a pass at a leader, and calls that no other test makes.
+use crate::following::answers_are_right;
 use crate::net::{Net, id_of};
 use rq_core::Core;
 use rq_log::{Message, Packet};
@@ -99,13 +100,14 @@ fn outcomes(alloc: Global, net: &mut Net) -> Result<([bool; 3], [bool; 3], [u64;
     Ok((passes, fresh, stands, leader.applied()))
 }
 
-/// A pass counts replies to what was sent with it or later; a follower is fresh within a limit; a copy stands alike.
+/// A pass counts replies to what was sent with it or later; a follower is fresh within a limit; a copy stands alike; a follower takes
+/// an append where it has the entry before.
 #[test]
-fn reads_and_copies(rt: HostRuntime) -> Result<(), Fail> {
+fn single_calls(rt: HostRuntime) -> Result<(), Fail> {
     let mut net = led(rt.alloc())?;
     let outcomes = outcomes(rt.alloc(), &mut net);
     drop(net);
     let expected = ([false, false, true], [true, false, true], [1, 1, 1, 1], 0);
-    assert!(rt; outcomes? == expected);
+    assert!(rt; outcomes? == expected && answers_are_right(rt.alloc())?);
     Ok(())
 }
