@@ -11,22 +11,23 @@ use Rattle.rq_eval.specs.declared.error.EvalError.{EvalError}
 use Rattle.rq_eval.specs.declared.error.StmtError.TheVariants as error
 use Rattle.rq_eval.specs.declared.resolved.ResolveError.{ResolveError}
 use Rattle.rq_eval.specs.declared.resolved.ResolveError.TheVariants as wrong
-use Rattle.rq_eval.specs.declared.resolved.UnaryOp.{UnaryOp}
-use Rattle.rq_eval.specs.declared.resolved.UnaryOp.TheVariants as u
-use Rattle.rq_eval.specs.declared.resolved.AggregateOp.{AggregateOp}
-use Rattle.rq_eval.specs.declared.resolved.Function.{Function}
-use Rattle.rq_eval.specs.declared.resolved.Function.TheVariants as f
+use Rattle.rq_operators.specs.declared.operators.UnaryOp.{UnaryOp}
+use Rattle.rq_operators.specs.declared.operators.UnaryOp.TheVariants as u
+use Rattle.rq_operators.specs.declared.operators.AggregateOp.{AggregateOp}
+use Rattle.rq_operators.specs.declared.operators.Function.{Function}
+use Rattle.rq_operators.specs.declared.operators.Function.TheVariants as f
 use Rattle.rq_eval.specs.declared.resolved.ResolvedExpr.{ResolvedExpr}
 use Rattle.rq_eval.specs.declared.resolved.ResolvedExpr.TheVariants as x
 use Rattle.rq_eval.specs.declared.resolved.ResolvedExpr.TheOpen.{ResolvedExpr-F}
 use Rattle.rq_eval.specs.declared.resolved.ResolvedExpr.TheViews.{roll-ResolvedExpr}
 use Rattle.rq_eval.specs.declared.resolved.ResolvedExpr.TheFolds.{fold-roll-ResolvedExpr}
 use Rattle.rq_eval.specs.declared.row.Scope.{Scope}
-use Rattle.rq_eval.specs.Outcome.{Outcome, Answers}
-use Rattle.rq_eval.specs.Operators.{in_range}
+use Rattle.rq_eval.specs.Outcome.{Outcome, Answers, stated}
+use Rattle.rq_operators.specs.Operators.{in_range}
 use Rattle.rq_eval.specs.Names.{Row, place, qualified_place, value_at}
-use Rattle.rq_eval.specs.Functions.{function_of, takes}
-use Rattle.rq_eval.specs.Aggregates.{over, start}
+use Rattle.rq_operators.specs.Functions.{function_of, takes}
+use Rattle.rq_operators.specs.Aggregates.{start}
+use Rattle.rq_eval.specs.Aggregates.{over}
 use Rattle.rq_eval.specs.Resolved.{evaluated, evaluated_step, resolved, resolved_step, error_of, column_or, sole_argument, applied_to, call_of, count_all, negated_if}
 use Rattle.rq_eval.specs.Value.{Gives, Meaning, on_one, on_two, in_values, between_values, coalesced, found, sole, applied, called, count_of_rows, not_if, value_step, value_in}
 
@@ -65,7 +66,7 @@ module _ (rs : List Row) where
   unfolding roll-ResolvedExpr denote.Hole.Carrier.roll
   ev_coalesce ys = fold-roll-ResolvedExpr Gives (evaluated_step rs) (ResolvedExpr-F.Coalesce ys)
 
-  ev_count_all : evaluated rs x.CountAll ≡ (λ r. in_range (pos (length rs)))
+  ev_count_all : evaluated rs x.CountAll ≡ (λ r. stated (in_range (pos (length rs))))
   unfolding roll-ResolvedExpr denote.Hole.Carrier.roll
   ev_count_all = fold-roll-ResolvedExpr Gives (evaluated_step rs) ResolvedExpr-F.CountAll
 

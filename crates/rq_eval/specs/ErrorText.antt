@@ -2,6 +2,8 @@
 use Rattle.std.specs.Prelude.{ℕ, List, ◌++◌, codes, decimal}
 use Rattle.rq_grammar.specs.declared.stmt.ColumnKind.{ColumnKind}
 use Rattle.rq_grammar.specs.declared.stmt.ColumnKind.TheVariants as kind
+use Rattle.rq_operators.specs.declared.error.ValueError.{ValueError}
+use Rattle.rq_operators.specs.declared.error.ValueError.TheVariants as value
 use Rattle.rq_eval.specs.declared.error.StmtError.{StmtError}
 use Rattle.rq_eval.specs.declared.error.StmtError.TheVariants as error
 
@@ -15,6 +17,13 @@ counted n words = decimal n ++ words
 
 abbrev pub value_in : ColumnKind → ColumnKind → List ℕ
 value_in k l = codes "cannot store " ++ kind_name k ++ codes " value in " ++ kind_name l
+
+abbrev pub value_words : ValueError → List ℕ
+value_words value.NotInteger = codes "not an integer"
+value_words value.NotText = codes "not a text"
+value_words value.NotCondition = codes "not a condition"
+value_words value.NotTimeText = codes "not a time text"
+value_words value.IntegerOverflow = codes "integer overflow"
 
 abbrev pub error_text : StmtError → List ℕ
 error_text error.QueryInExecute = codes "query in execute"
@@ -34,11 +43,7 @@ error_text (error.WrongArguments f) = codes "wrong number of arguments to functi
 error_text error.MisuseOfAggregate = codes "misuse of aggregate"
 error_text error.OrderTermOutOfRange = codes "ORDER BY term out of range"
 error_text error.DatatypeMismatch = codes "datatype mismatch"
-error_text error.NotInteger = codes "not an integer"
-error_text error.NotText = codes "not a text"
-error_text error.NotCondition = codes "not a condition"
-error_text error.NotTimeText = codes "not a time text"
-error_text error.IntegerOverflow = codes "integer overflow"
+error_text (error.Value e) = value_words e
 error_text (error.CannotStore k l t c) = value_in k l ++ (codes " column " ++ t ++ codes "." ++ c)
 error_text error.RowidOutOfRange = codes "rowid out of range"
 error_text error.Full = codes "database or disk is full"

@@ -1,9 +1,6 @@
 pub mod Aggregates
 pub mod ErrorText
-pub mod Functions
 pub mod Names
-pub mod Operators
 pub mod Outcome
 pub mod Resolved
-pub mod Texts
 pub mod Value

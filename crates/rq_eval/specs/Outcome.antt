@@ -1,9 +1,8 @@
 -- What an expression gives: a thing, or the error that the statement has; and what a function answers.
-use Rattle.std.specs.Prelude.{◌≡◌, ℕ, List, [], ◌∷◌, ◌++◌, Result, Ok, Err}
-use Rattle.rq_values.specs.declared.memory.NoMemory.{NoMemory}
-use Rattle.rq_values.specs.declared.value.Value.{Value}
-use Rattle.rq_values.specs.declared.value.Value.TheVariants as v
+use Rattle.std.specs.Prelude.{◌≡◌, List, [], ◌∷◌, ◌++◌, Result, Ok, Err}
+use Rattle.rq_operators.specs.declared.error.ValueError.{ValueError}
 use Rattle.rq_eval.specs.declared.error.StmtError.{StmtError}
+use Rattle.rq_eval.specs.declared.error.StmtError.TheVariants as error
 use Rattle.rq_eval.specs.declared.error.EvalError.{EvalError}
 use Rattle.rq_eval.specs.declared.error.EvalError.TheVariants as e
 
@@ -22,6 +21,11 @@ HasMemory (Ok x) = Unit {0}
 HasMemory (Err (e.Says s)) = Unit {0}
 HasMemory (Err e.NoMemory) = ⊥
 
+-- what an operator gives, as what a statement says
+abbrev pub stated : {A : Type 0} → Result A ValueError → Outcome A
+stated (Ok x) = Ok x
+stated (Err e) = Err (error.Value e)
+
 -- the first, then the second; the first error is the error
 abbrev pub then_with : {A B : Type 0} → Outcome A → (A → Outcome B) → Outcome B
 then_with (Err e) next = Err e
@@ -34,10 +38,3 @@ all_behind vs (x ∷ xs) = then_with x (λ v. all_behind (vs ++ v ∷ []) xs)
 
 abbrev pub all_of : {A : Type 0} → List (Outcome A) → Outcome (List A)
 all_of xs = all_behind [] xs
-
--- the text that was made, unless memory ran out
-abbrev pub IsMadeText : Result (List ℕ) NoMemory → Result Value EvalError → Type 0
-IsMadeText (Ok t) (Ok y) = v.Text t ≡ y
-IsMadeText (Ok t) (Err s) = ⊥
-IsMadeText (Err n) (Ok y) = ⊥
-IsMadeText (Err n) (Err s) = s ≡ e.NoMemory

@@ -3,6 +3,7 @@ use Rattle.std.specs.Prelude.{◌≡◌, ℕ, Bool, true, false, if◌then◌els
 use Rattle.rq_values.specs.declared.memory.NoMemory.{NoMemory}
 use Rattle.rq_values.specs.declared.value.Value.{Value}
 use Rattle.rq_values.specs.declared.value.Value.TheVariants as v
+use Rattle.rq_grammar.specs.declared.expr.BinaryOp.{BinaryOp}
 use Rattle.rq_grammar.specs.declared.expr.Expr.{Expr}
 use Rattle.rq_grammar.specs.declared.expr.Expr.TheOpen.{Expr-F}
 use Rattle.rq_grammar.specs.declared.expr.Expr.TheFolds.{fold-Expr}
@@ -10,10 +11,10 @@ use Rattle.rq_eval.specs.declared.error.StmtError.{StmtError}
 use Rattle.rq_eval.specs.declared.error.StmtError.TheVariants as error
 use Rattle.rq_eval.specs.declared.error.EvalError.{EvalError}
 use Rattle.rq_eval.specs.declared.error.EvalError.TheVariants as e
-use Rattle.rq_eval.specs.declared.resolved.UnaryOp.{UnaryOp}
-use Rattle.rq_eval.specs.declared.resolved.UnaryOp.TheVariants as u
-use Rattle.rq_eval.specs.declared.resolved.Function.{Function}
-use Rattle.rq_eval.specs.declared.resolved.Function.TheVariants as f
+use Rattle.rq_operators.specs.declared.operators.UnaryOp.{UnaryOp}
+use Rattle.rq_operators.specs.declared.operators.UnaryOp.TheVariants as u
+use Rattle.rq_operators.specs.declared.operators.Function.{Function}
+use Rattle.rq_operators.specs.declared.operators.Function.TheVariants as f
 use Rattle.rq_eval.specs.declared.resolved.ResolveError.{ResolveError}
 use Rattle.rq_eval.specs.declared.resolved.ResolveError.TheVariants as wrong
 use Rattle.rq_eval.specs.declared.resolved.ResolvedExpr.{ResolvedExpr}
@@ -23,12 +24,13 @@ use Rattle.rq_eval.specs.declared.resolved.ResolvedExpr.TheFolds.{fold-ResolvedE
 use Rattle.rq_eval.specs.declared.row.Scope.{Scope}
 use Rattle.rq_eval.specs.declared.evaluation.Operand.{Operand}
 use Rattle.rq_eval.specs.declared.evaluation.Operand.TheVariants as operand
-use Rattle.rq_eval.specs.Outcome.{Outcome, then_with, all_of}
-use Rattle.rq_eval.specs.Operators as o
-use Rattle.rq_eval.specs.Operators.{in_range}
+use Rattle.rq_eval.specs.Outcome.{Outcome, then_with, all_of, stated}
+use Rattle.rq_operators.specs.Operators as o
+use Rattle.rq_operators.specs.Operators.{in_range}
 use Rattle.rq_eval.specs.Names.{Row, place, qualified_place, value_at}
-use Rattle.rq_eval.specs.Functions.{function_of, takes, unary, binary}
-use Rattle.rq_eval.specs.Aggregates.{over, start}
+use Rattle.rq_operators.specs.Functions.{function_of, takes, unary, binary}
+use Rattle.rq_operators.specs.Aggregates.{start}
+use Rattle.rq_eval.specs.Aggregates.{over}
 
 -- ---- names
 
@@ -74,6 +76,21 @@ abbrev pub negated_if : Bool → ResolvedExpr → ResolvedExpr
 negated_if true y = x.Unary u.Not y
 negated_if false y = y
 
+abbrev pub literal : Value → ResolvedExpr
+literal y = x.Literal y
+
+abbrev pub unary_of : UnaryOp → ResolvedExpr → ResolvedExpr
+unary_of h y = x.Unary h y
+
+abbrev pub binary_of : BinaryOp → ResolvedExpr → ResolvedExpr → ResolvedExpr
+binary_of h y z = x.Binary h y z
+
+abbrev pub in_list_of : Bool → ResolvedExpr → List ResolvedExpr → ResolvedExpr
+in_list_of d y ys = negated_if d (x.InList y ys)
+
+abbrev pub between_of : Bool → ResolvedExpr → ResolvedExpr → ResolvedExpr → ResolvedExpr
+between_of d y z w = negated_if d (x.Between y z w)
+
 -- ---- an expression with places and operators
 
 abbrev pub resolved_step : Scope → Expr-F (Bool → ResolvedExpr) → Bool → ResolvedExpr
@@ -118,12 +135,12 @@ abbrev pub evaluated_step : List Row → ResolvedExpr-F (Row → Outcome Value) 
 evaluated_step rs (ResolvedExpr-F.Literal y) r = Ok y
 evaluated_step rs (ResolvedExpr-F.Column i) r = Ok (value_at r i)
 evaluated_step rs (ResolvedExpr-F.Error e) r = Err (error_of e)
-evaluated_step rs (ResolvedExpr-F.Unary h y) r = then_with (y r) (unary h)
-evaluated_step rs (ResolvedExpr-F.Binary h y z) r = then_with (y r) (λ a. then_with (z r) (binary h a))
+evaluated_step rs (ResolvedExpr-F.Unary h y) r = then_with (y r) (λ a. stated (unary h a))
+evaluated_step rs (ResolvedExpr-F.Binary h y z) r = then_with (y r) (λ a. then_with (z r) (λ b. stated (binary h a b)))
 evaluated_step rs (ResolvedExpr-F.InList y ys) r = then_with (y r) (λ a. then_with (all_of (map (λ z. z r) ys)) (λ bs. Ok (o.in_list a bs)))
 evaluated_step rs (ResolvedExpr-F.Between y z w) r = then_with (y r) (λ a. then_with (z r) (λ b. then_with (w r) (λ c. Ok (o.between a b c))))
 evaluated_step rs (ResolvedExpr-F.Coalesce ys) r = then_with (all_of (map (λ z. z r) ys)) (λ bs. Ok (o.first_non_null bs))
-evaluated_step rs ResolvedExpr-F.CountAll r = in_range (pos (length rs))
+evaluated_step rs ResolvedExpr-F.CountAll r = stated (in_range (pos (length rs)))
 evaluated_step rs (ResolvedExpr-F.Aggregate h y) r = over h y (start h) rs
 
 abbrev pub evaluated : List Row → ResolvedExpr → Row → Outcome Value

@@ -11,17 +11,18 @@ use Rattle.rq_grammar.specs.declared.expr.Expr.TheOpen.{Expr-F}
 use Rattle.rq_grammar.specs.declared.expr.Expr.TheFolds.{fold-Expr}
 use Rattle.rq_eval.specs.declared.error.StmtError.{StmtError}
 use Rattle.rq_eval.specs.declared.error.StmtError.TheVariants as error
-use Rattle.rq_eval.specs.declared.resolved.UnaryOp.{UnaryOp}
-use Rattle.rq_eval.specs.declared.resolved.UnaryOp.TheVariants as u
-use Rattle.rq_eval.specs.declared.resolved.Function.{Function}
-use Rattle.rq_eval.specs.declared.resolved.Function.TheVariants as f
+use Rattle.rq_operators.specs.declared.operators.UnaryOp.{UnaryOp}
+use Rattle.rq_operators.specs.declared.operators.UnaryOp.TheVariants as u
+use Rattle.rq_operators.specs.declared.operators.Function.{Function}
+use Rattle.rq_operators.specs.declared.operators.Function.TheVariants as f
 use Rattle.rq_eval.specs.declared.row.Scope.{Scope}
-use Rattle.rq_eval.specs.Outcome.{Outcome, then_with, all_of}
-use Rattle.rq_eval.specs.Operators as o
-use Rattle.rq_eval.specs.Operators.{in_range}
+use Rattle.rq_eval.specs.Outcome.{Outcome, then_with, all_of, stated}
+use Rattle.rq_operators.specs.Operators as o
+use Rattle.rq_operators.specs.Operators.{in_range}
 use Rattle.rq_eval.specs.Names.{Row, place, qualified_place, value_at}
-use Rattle.rq_eval.specs.Functions.{function_of, takes, unary, binary}
-use Rattle.rq_eval.specs.Aggregates.{over, start}
+use Rattle.rq_operators.specs.Functions.{function_of, takes, unary, binary}
+use Rattle.rq_operators.specs.Aggregates.{start}
+use Rattle.rq_eval.specs.Aggregates.{over}
 
 -- what an expression gives over a row
 abbrev pub Gives : Type 0
@@ -32,16 +33,25 @@ abbrev pub Meaning : Type 0
 Meaning = Bool → Gives
 
 abbrev pub on_one : UnaryOp → Gives → Gives
-on_one h x r = then_with (x r) (unary h)
+on_one h x r = then_with (x r) (λ a. stated (unary h a))
+
+abbrev pub on_value : BinaryOp → Value → Outcome Value → Outcome Value
+on_value h a p = then_with p (λ b. stated (binary h a b))
 
 abbrev pub on_two : BinaryOp → Gives → Gives → Gives
-on_two h x y r = then_with (x r) (λ a. then_with (y r) (binary h a))
+on_two h x y r = then_with (x r) (λ a. on_value h a (y r))
+
+abbrev pub in_values_of : Value → Outcome (List Value) → Outcome Value
+in_values_of a p = then_with p (λ bs. Ok (o.in_list a bs))
 
 abbrev pub in_values : Gives → List Gives → Gives
-in_values x xs r = then_with (x r) (λ a. then_with (all_of (map (λ y. y r) xs)) (λ bs. Ok (o.in_list a bs)))
+in_values x xs r = then_with (x r) (λ a. in_values_of a (all_of (map (λ y. y r) xs)))
+
+abbrev pub up_to : Value → Value → Outcome Value → Outcome Value
+up_to a b p = then_with p (λ c. Ok (o.between a b c))
 
 abbrev pub between_values : Gives → Gives → Gives → Gives
-between_values x y z r = then_with (x r) (λ a. then_with (y r) (λ b. then_with (z r) (λ c. Ok (o.between a b c))))
+between_values x y z r = then_with (x r) (λ a. then_with (y r) (λ b. up_to a b (z r)))
 
 abbrev pub coalesced : List Gives → Gives
 coalesced xs r = then_with (all_of (map (λ y. y r) xs)) (λ bs. Ok (o.first_non_null bs))
@@ -72,7 +82,7 @@ called rs n None xs g r = Err (error.NoFunction n)
 called rs n (Some h) xs g r = if takes h (length xs) then applied rs h xs g r else Err (error.WrongArguments n)
 
 abbrev pub count_of_rows : List Row → Meaning
-count_of_rows rs true r = in_range (pos (length rs))
+count_of_rows rs true r = stated (in_range (pos (length rs)))
 count_of_rows rs false r = Err error.MisuseOfAggregate
 
 abbrev pub not_if : Bool → Gives → Gives

@@ -1,6 +1,7 @@
 //! The errors of statements, and why there is no value.
 
 use rq_grammar::ColumnKind;
+use rq_operators::ValueError;
 use rq_values::{NoMemory, Text};
 use std::alloc::AllocError;
 
@@ -39,11 +40,8 @@ pub enum StmtError {
     MisuseOfAggregate,
     OrderTermOutOfRange,
     DatatypeMismatch,
-    NotInteger,
-    NotText,
-    NotCondition,
-    NotTimeText,
-    IntegerOverflow,
+    /// What an operator or a function says of its values.
+    Value(ValueError),
     /// A value of one kind in a column of another.
     CannotStore {
         value: ColumnKind,
@@ -104,11 +102,7 @@ impl Drop for StmtError {
             | StmtError::MisuseOfAggregate
             | StmtError::OrderTermOutOfRange
             | StmtError::DatatypeMismatch
-            | StmtError::NotInteger
-            | StmtError::NotText
-            | StmtError::NotCondition
-            | StmtError::NotTimeText
-            | StmtError::IntegerOverflow
+            | StmtError::Value(_)
             | StmtError::RowidOutOfRange
             | StmtError::Full => {}
         }

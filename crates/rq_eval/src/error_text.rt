@@ -6,6 +6,7 @@ ghost use Rattle.rq_eval.specs.ErrorText as spec;
 
 use crate::error::StmtError;
 use rq_grammar::ColumnKind;
+use rq_operators::ValueError;
 use rq_values::{NoMemory, Text};
 use std::alloc::Global;
 
@@ -24,6 +25,20 @@ fn kinds(value: ColumnKind, kind: ColumnKind) -> &'static [u8]
         (ColumnKind::Blob, ColumnKind::Integer) => b"cannot store BLOB value in INTEGER",
         (ColumnKind::Blob, ColumnKind::Text) => b"cannot store BLOB value in TEXT",
         (ColumnKind::Blob, ColumnKind::Blob) => b"cannot store BLOB value in BLOB",
+    }
+}
+
+/// What is wrong with values.
+fn value_words(error: ValueError) -> &'static [u8]
+    ensures words { result.now ≡ spec.value_words error }
+    ensures plain { is_plain result.now ≡ true }
+{
+    match error {
+        ValueError::NotInteger => b"not an integer",
+        ValueError::NotText => b"not a text",
+        ValueError::NotCondition => b"not a condition",
+        ValueError::NotTimeText => b"not a time text",
+        ValueError::IntegerOverflow => b"integer overflow",
     }
 }
 
@@ -164,11 +179,7 @@ impl StmtError {
             Self::MisuseOfAggregate => text.push_plain(b"misuse of aggregate"),
             Self::OrderTermOutOfRange => text.push_plain(b"ORDER BY term out of range"),
             Self::DatatypeMismatch => text.push_plain(b"datatype mismatch"),
-            Self::NotInteger => text.push_plain(b"not an integer"),
-            Self::NotText => text.push_plain(b"not a text"),
-            Self::NotCondition => text.push_plain(b"not a condition"),
-            Self::NotTimeText => text.push_plain(b"not a time text"),
-            Self::IntegerOverflow => text.push_plain(b"integer overflow"),
+            Self::Value(error) => text.push_plain(value_words(*error)),
             Self::CannotStore {
                 value,
                 kind,

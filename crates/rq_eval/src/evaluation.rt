@@ -2,81 +2,72 @@
 //! settling makes none deeper.
 
 ghost use Rattle.std.specs.Prelude.{◌≡◌, IfOk, Ok, Err, map};
-ghost use Rattle.rq_eval.specs.Outcome.{Answers};
+ghost use Rattle.rq_operators.specs.Aggregates as operator_aggregates;
+ghost use Rattle.rq_operators.specs.Functions as functions;
+ghost use Rattle.rq_operators.specs.Operators as operators;
+ghost use Rattle.rq_eval.specs.Outcome.{Answers, stated};
 ghost use Rattle.rq_eval.specs.Aggregates as aggregates;
-ghost use Rattle.rq_eval.specs.Functions as functions;
 ghost use Rattle.rq_eval.specs.Names.{row_of, value_at};
 ghost use Rattle.rq_eval.specs.Resolved as spec;
+ghost use Rattle.rq_eval.specs.Value as meaning;
 
-use crate::aggregates::{one_more, start};
-use crate::arithmetic::{Arithmetic, Sign, calculate, on_integer};
-use crate::comparing::{between, compared, copied, first_non_null, in_list, is_same};
-use crate::dates::time_part;
 use crate::error::{EvalError, StmtError};
-use crate::logic::{Junction, logical, logical_not, truth};
-use crate::resolved::{AggregateOp, ResolveError, ResolvedExpr, UnaryOp};
+use crate::resolved::{ResolveError, ResolvedExpr};
 use crate::row::RowView;
-use crate::texts::{LetterCase, TextPair, count, hex, in_case, length, on_texts, type_of};
 use rq_grammar::BinaryOp;
-use rq_values::{NoMemory, TryCopy, Value, compare};
+use rq_operators::{
+    AggregateOp, OperatorError, UnaryOp, ValueError, apply_binary, apply_unary, between, count,
+    first_non_null, in_list, one_more, start,
+};
+use rq_values::{NoMemory, TryCopy, Value};
 use sqlite_items::{Items, at};
 use std::alloc::Global;
 
-/// What an operator that takes no memory gives.
-fn given(outcome: Result<Value, StmtError>) -> Result<Value, EvalError>
-    ensures { Answers outcome result }
-{
-    match outcome {
-        Ok(value) => Ok(value),
-        Err(error) => Err(EvalError::Says(error)),
-    }
-}
-
 fn unary(alloc: Global, op: UnaryOp, a: &Value) -> Result<Value, EvalError>
-    ensures { Answers (functions.unary op a.now) result }
+    ensures { Answers (stated (functions.unary op a.now)) result }
 {
-    match op {
-        UnaryOp::Minus => given(on_integer(Sign::Minus, a)),
-        UnaryOp::Not => given(logical_not(a)),
-        UnaryOp::Abs => given(on_integer(Sign::Absolute, a)),
-        UnaryOp::Length => given(length(a)),
-        UnaryOp::Lower => in_case(alloc, LetterCase::Lower, a),
-        UnaryOp::Upper => in_case(alloc, LetterCase::Upper, a),
-        UnaryOp::Hex => hex(alloc, a),
-        UnaryOp::TypeOf => type_of(alloc, a),
-        UnaryOp::Part(part) => time_part(alloc, part, a),
+    match apply_unary(alloc, op, a) {
+        Ok(value) => Ok(value),
+        Err(OperatorError::Says(error)) => Err(EvalError::Says(StmtError::Value(error))),
+        Err(OperatorError::NoMemory) => Err(EvalError::NoMemory),
     }
-}
-
-fn not_like(alloc: Global, a: &Value, b: &Value) -> Result<Value, EvalError>
-    ensures { Answers (functions.binary functions.not_like a.now b.now) result }
-{
-    let is = on_texts(alloc, TextPair::Like, a, b)?;
-    given(logical_not(&is))
 }
 
 fn binary(alloc: Global, op: BinaryOp, a: &Value, b: &Value) -> Result<Value, EvalError>
-    ensures { Answers (functions.binary op a.now b.now) result }
+    ensures { Answers (stated (functions.binary op a.now b.now)) result }
 {
-    match op {
-        BinaryOp::Or => given(logical(Junction::Or, a, b)),
-        BinaryOp::And => given(logical(Junction::And, a, b)),
-        BinaryOp::Equal => Ok(compared(a, b, compare(a, b).is_eq())),
-        BinaryOp::NotEqual => Ok(compared(a, b, compare(a, b).is_ne())),
-        BinaryOp::Is => Ok(truth(Some(is_same(a, b)))),
-        BinaryOp::IsNot => Ok(truth(Some(!is_same(a, b)))),
-        BinaryOp::Like => on_texts(alloc, TextPair::Like, a, b),
-        BinaryOp::NotLike => not_like(alloc, a, b),
-        BinaryOp::Less => Ok(compared(a, b, compare(a, b).is_lt())),
-        BinaryOp::LessEqual => Ok(compared(a, b, compare(a, b).is_le())),
-        BinaryOp::Greater => Ok(compared(a, b, compare(a, b).is_gt())),
-        BinaryOp::GreaterEqual => Ok(compared(a, b, compare(a, b).is_ge())),
-        BinaryOp::Add => given(calculate(Arithmetic::Add, a, b)),
-        BinaryOp::Sub => given(calculate(Arithmetic::Sub, a, b)),
-        BinaryOp::Mul => given(calculate(Arithmetic::Mul, a, b)),
-        BinaryOp::Div => given(calculate(Arithmetic::Div, a, b)),
-        BinaryOp::Rem => given(calculate(Arithmetic::Rem, a, b)),
-        BinaryOp::Concat => on_texts(alloc, TextPair::Join, a, b),
+    match apply_binary(alloc, op, a, b) {
+        Ok(value) => Ok(value),
+        Err(OperatorError::Says(error)) => Err(EvalError::Says(StmtError::Value(error))),
+        Err(OperatorError::NoMemory) => Err(EvalError::NoMemory),
+    }
+}
+
+/// What an operator that takes no memory gives.
+fn given(outcome: Result<Value, ValueError>) -> Result<Value, EvalError>
+    ensures { Answers (stated outcome) result }
+{
+    match outcome {
+        Ok(value) => Ok(value),
+        Err(error) => Err(EvalError::Says(StmtError::Value(error))),
+    }
+}
+
+fn copy_of(alloc: Global, value: &Value) -> Result<Value, EvalError>
+    ensures { Answers (Ok value.now) result }
+{
+    match value.copy(alloc) {
+        Ok(value) => Ok(value),
+        Err(_) => Err(EvalError::NoMemory),
+    }
+}
+
+fn first_in(alloc: Global, list: &[Value]) -> Result<Value, EvalError>
+    ensures { Answers (Ok (operators.first_non_null list.now)) result }
+{
+    match first_non_null(list) {
+        Some(value) => copy_of(alloc, value),
+        None => Ok(Value::Null),
     }
 }
 
@@ -85,7 +76,7 @@ fn column(alloc: Global, row: &RowView<'_>, place: usize) -> Result<Value, EvalE
     ensures { Answers (Ok (value_at (row_of row.now) place)) result }
 {
     match at(row.values, place) {
-        Some(value) => copied(alloc, value),
+        Some(value) => copy_of(alloc, value),
         None => Ok(Value::Int(row.rowid)),
     }
 }
@@ -188,6 +179,12 @@ fn operand_of<'e, 'r>(
     }
 }
 
+fn with_one_more(op: AggregateOp, so_far: Value, value: Value) -> Result<Value, EvalError>
+    ensures { Answers (stated (operator_aggregates.one_more op so_far value)) result }
+{
+    given(one_more(op, so_far, value))
+}
+
 /// The aggregate over the rows in their order.
 #[cycle(evaluating)]
 fn over(
@@ -196,12 +193,12 @@ fn over(
     operand: &ResolvedExpr,
     rows: &[RowView<'_>],
 ) -> Result<Value, EvalError>
-    ensures { Answers (aggregates.over op (spec.evaluated (map row_of rows.now) operand.now) (aggregates.start op) (map row_of rows.now)) result }
+    ensures { Answers (aggregates.over op (spec.evaluated (map row_of rows.now) operand.now) (operator_aggregates.start op) (map row_of rows.now)) result }
 {
     let mut so_far = start(op);
     for row in rows {
         match evaluate(alloc, operand, row, rows) {
-            Ok(value) => so_far = one_more(op, so_far, value)?,
+            Ok(value) => so_far = with_one_more(op, so_far, value)?,
             Err(e) => {
                 drop(so_far);
                 return Err(e);
@@ -234,6 +231,96 @@ fn all_evaluated(
     Ok(found)
 }
 
+#[cycle(evaluating)]
+fn evaluate_unary(
+    alloc: Global,
+    op: UnaryOp,
+    operand: &ResolvedExpr,
+    row: &RowView<'_>,
+    rows: &[RowView<'_>],
+) -> Result<Value, EvalError>
+    ensures { Answers (meaning.on_one op (spec.evaluated (map row_of rows.now) operand.now) (row_of row.now)) result }
+{
+    let a = operand_of(alloc, operand, row, rows)?;
+    unary(alloc, op, a.get())
+}
+
+/// The operator on an operand and on what is right of it.
+#[cycle(evaluating)]
+fn evaluate_right(
+    alloc: Global,
+    op: BinaryOp,
+    a: Operand<'_, '_>,
+    right: &ResolvedExpr,
+    row: &RowView<'_>,
+    rows: &[RowView<'_>],
+) -> Result<Value, EvalError>
+    ensures { Answers (meaning.on_value op (spec.operand_value a.entry) (spec.evaluated (map row_of rows.now) right.now (row_of row.now))) result }
+{
+    match operand_of(alloc, right, row, rows) {
+        Ok(b) => binary(alloc, op, a.get(), b.get()),
+        Err(e) => {
+            drop(a);
+            Err(e)
+        }
+    }
+}
+
+/// IN of an operand.
+#[cycle(evaluating)]
+fn evaluate_list(
+    alloc: Global,
+    a: Operand<'_, '_>,
+    list: &[ResolvedExpr],
+    row: &RowView<'_>,
+    rows: &[RowView<'_>],
+) -> Result<Value, EvalError>
+    ensures { Answers (meaning.in_values_of (spec.operand_value a.entry) (spec.all_evaluated (map row_of rows.now) list.now (row_of row.now))) result }
+{
+    match all_evaluated(alloc, list, row, rows) {
+        Ok(list) => Ok(in_list(a.get(), list.as_slice())),
+        Err(e) => {
+            drop(a);
+            Err(e)
+        }
+    }
+}
+
+/// BETWEEN of an operand and of its lower bound.
+#[cycle(evaluating)]
+fn evaluate_high(
+    alloc: Global,
+    a: Operand<'_, '_>,
+    low: Operand<'_, '_>,
+    high: &ResolvedExpr,
+    row: &RowView<'_>,
+    rows: &[RowView<'_>],
+) -> Result<Value, EvalError>
+    ensures { Answers (meaning.up_to (spec.operand_value a.entry) (spec.operand_value low.entry) (spec.evaluated (map row_of rows.now) high.now (row_of row.now))) result }
+{
+    match operand_of(alloc, high, row, rows) {
+        Ok(high) => Ok(between(a.get(), low.get(), high.get())),
+        Err(e) => {
+            drop(a);
+            drop(low);
+            Err(e)
+        }
+    }
+}
+
+#[cycle(evaluating)]
+fn evaluate_coalesce(
+    alloc: Global,
+    list: &[ResolvedExpr],
+    row: &RowView<'_>,
+    rows: &[RowView<'_>],
+) -> Result<Value, EvalError>
+    ensures { Answers (meaning.coalesced (map (spec.evaluated (map row_of rows.now)) list.now) (row_of row.now)) result }
+{
+    let list = all_evaluated(alloc, list, row, rows)?;
+    first_in(alloc, list.as_slice())
+}
+
 /// The value over a row, with the rows that aggregates are over.
 #[cycle(evaluating)]
 pub fn evaluate(
@@ -245,55 +332,29 @@ pub fn evaluate(
     ensures { Answers (spec.evaluated (map row_of rows.now) expr.now (row_of row.now)) result }
 {
     match expr {
-        ResolvedExpr::Literal(value) => copied(alloc, value),
+        ResolvedExpr::Literal(value) => copy_of(alloc, value),
         ResolvedExpr::Column(place) => column(alloc, row, *place),
         ResolvedExpr::Error(error) => says(alloc, error),
-        ResolvedExpr::Unary { op, operand } => {
-            let a = operand_of(alloc, operand.get(), row, rows)?;
-            unary(alloc, *op, a.get())
-        }
+        ResolvedExpr::Unary { op, operand } => evaluate_unary(alloc, *op, operand.get(), row, rows),
         ResolvedExpr::Binary { op, left, right } => {
             let a = operand_of(alloc, left.get(), row, rows)?;
-            match operand_of(alloc, right.get(), row, rows) {
-                Ok(b) => binary(alloc, *op, a.get(), b.get()),
-                Err(e) => {
-                    drop(a);
-                    Err(e)
-                }
-            }
+            evaluate_right(alloc, *op, a, right.get(), row, rows)
         }
         ResolvedExpr::InList { left, list } => {
             let a = operand_of(alloc, left.get(), row, rows)?;
-            match all_evaluated(alloc, list.as_slice(), row, rows) {
-                Ok(list) => Ok(in_list(a.get(), list.as_slice())),
-                Err(e) => {
-                    drop(a);
-                    Err(e)
-                }
-            }
+            evaluate_list(alloc, a, list.as_slice(), row, rows)
         }
         ResolvedExpr::Between { operand, low, high } => {
             let a = operand_of(alloc, operand.get(), row, rows)?;
-            let low = match operand_of(alloc, low.get(), row, rows) {
-                Ok(low) => low,
+            match operand_of(alloc, low.get(), row, rows) {
+                Ok(low) => evaluate_high(alloc, a, low, high.get(), row, rows),
                 Err(e) => {
                     drop(a);
-                    return Err(e);
-                }
-            };
-            match operand_of(alloc, high.get(), row, rows) {
-                Ok(high) => Ok(between(a.get(), low.get(), high.get())),
-                Err(e) => {
-                    drop(a);
-                    drop(low);
                     Err(e)
                 }
             }
         }
-        ResolvedExpr::Coalesce(list) => {
-            let list = all_evaluated(alloc, list.as_slice(), row, rows)?;
-            first_non_null(alloc, list.as_slice())
-        }
+        ResolvedExpr::Coalesce(list) => evaluate_coalesce(alloc, list.as_slice(), row, rows),
         ResolvedExpr::CountAll => given(count(rows.len())),
         ResolvedExpr::Aggregate { op, operand } => over(alloc, *op, operand.get(), rows),
     }

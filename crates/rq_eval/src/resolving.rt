@@ -2,15 +2,15 @@
 //! most 100 levels, and settling makes none deeper.
 
 ghost use Rattle.std.specs.Prelude.{◌≡◌, IfOk, map};
-ghost use Rattle.rq_eval.specs.Functions.{function_of};
+ghost use Rattle.rq_operators.specs.Functions.{function_of};
 ghost use Rattle.rq_eval.specs.Names as names;
 ghost use Rattle.rq_eval.specs.Resolved as spec;
 
-use crate::functions::{function_of, takes};
 use crate::naming::{find_column, find_qualified_column};
-use crate::resolved::{Function, ResolveError, ResolvedExpr, UnaryOp};
+use crate::resolved::{ResolveError, ResolvedExpr};
 use crate::row::Scope;
-use rq_grammar::Expr;
+use rq_grammar::{BinaryOp, Expr};
+use rq_operators::{Function, UnaryOp, function_of, takes};
 use rq_values::{NoMemory, Text, TryCopy, Value};
 use sqlite_items::{Boxed, Items};
 use std::alloc::Global;
@@ -63,6 +63,15 @@ fn qualified_column(
                 }
             }
         }
+    }
+}
+
+fn literal(alloc: Global, value: &Value) -> Result<ResolvedExpr, NoMemory>
+    ensures { IfOk result (λ p. p ≡ spec.literal value.now) }
+{
+    match value.copy(alloc) {
+        Ok(value) => Ok(ResolvedExpr::Literal(value)),
+        Err(e) => Err(e),
     }
 }
 
@@ -211,6 +220,84 @@ fn call(
     }
 }
 
+/// The operator on what is left of it, and on its right operand.
+#[cycle(resolving)]
+fn resolve_right(
+    alloc: Global,
+    scope: &Scope,
+    op: BinaryOp,
+    right: &Expr,
+    left: Boxed<ResolvedExpr>,
+    aggregates: bool,
+) -> Result<ResolvedExpr, NoMemory>
+    ensures { IfOk result (λ p. p ≡ spec.binary_of op left (spec.resolved scope.now right.now aggregates)) }
+{
+    match boxed(alloc, scope, right, aggregates) {
+        Ok(right) => Ok(ResolvedExpr::Binary { op, left, right }),
+        Err(e) => {
+            drop(left);
+            Err(e)
+        }
+    }
+}
+
+/// IN, of what is left of it.
+#[cycle(resolving)]
+fn resolve_list(
+    alloc: Global,
+    scope: &Scope,
+    negated: bool,
+    list: &[Expr],
+    left: Boxed<ResolvedExpr>,
+    aggregates: bool,
+) -> Result<ResolvedExpr, NoMemory>
+    ensures { IfOk result (λ p. p ≡ spec.in_list_of negated left (spec.all_resolved scope.now list.now aggregates)) }
+{
+    match all_resolved(alloc, scope, list, aggregates) {
+        Ok(list) => negated_if(alloc, negated, ResolvedExpr::InList { left, list }),
+        Err(e) => {
+            drop(left);
+            Err(e)
+        }
+    }
+}
+
+/// BETWEEN, of what stands before its upper bound.
+#[cycle(resolving)]
+fn resolve_high(
+    alloc: Global,
+    scope: &Scope,
+    negated: bool,
+    high: &Expr,
+    operand: Boxed<ResolvedExpr>,
+    low: Boxed<ResolvedExpr>,
+    aggregates: bool,
+) -> Result<ResolvedExpr, NoMemory>
+    ensures { IfOk result (λ p. p ≡ spec.between_of negated operand low (spec.resolved scope.now high.now aggregates)) }
+{
+    match boxed(alloc, scope, high, aggregates) {
+        Ok(high) => { negated_if(alloc, negated, ResolvedExpr::Between { operand, low, high }) }
+        Err(e) => {
+            drop(operand);
+            drop(low);
+            Err(e)
+        }
+    }
+}
+
+#[cycle(resolving)]
+fn resolve_unary(
+    alloc: Global,
+    scope: &Scope,
+    op: UnaryOp,
+    operand: &Expr,
+    aggregates: bool,
+) -> Result<ResolvedExpr, NoMemory>
+    ensures { IfOk result (λ p. p ≡ spec.unary_of op (spec.resolved scope.now operand.now aggregates)) }
+{
+    unary_of(op, boxed(alloc, scope, operand, aggregates))
+}
+
 /// The expression with places for its names and operators for its calls. `aggregates` says that it stands where aggregates may.
 #[cycle(resolving)]
 pub fn resolve(
@@ -222,7 +309,7 @@ pub fn resolve(
     ensures { IfOk result (λ p. p ≡ spec.resolved scope.now expr.now aggregates) }
 {
     match expr {
-        Expr::Literal(value) => Ok(ResolvedExpr::Literal(value.copy(alloc)?)),
+        Expr::Literal(value) => literal(alloc, value),
         Expr::Param(_) | Expr::CurrentTimestamp | Expr::CurrentDate | Expr::CurrentTime => {
             Ok(ResolvedExpr::Literal(Value::Null))
         }
@@ -233,29 +320,11 @@ pub fn resolve(
         } => qualified_column(alloc, scope, table, name, aggregates),
         Expr::CountAll => Ok(count_all(aggregates)),
         Expr::Call { name, args } => call(alloc, scope, name, args.as_slice(), aggregates),
-        Expr::Minus(operand) => {
-            unary_of(
-                UnaryOp::Minus,
-                boxed(alloc, scope, operand.get(), aggregates),
-            )
-        }
-        Expr::Not(operand) => unary_of(
-            UnaryOp::Not,
-            boxed(alloc, scope, operand.get(), aggregates),
-        ),
+        Expr::Minus(x) => resolve_unary(alloc, scope, UnaryOp::Minus, x.get(), aggregates),
+        Expr::Not(x) => resolve_unary(alloc, scope, UnaryOp::Not, x.get(), aggregates),
         Expr::Binary { op, left, right } => {
             let left = boxed(alloc, scope, left.get(), aggregates)?;
-            match boxed(alloc, scope, right.get(), aggregates) {
-                Ok(right) => Ok(ResolvedExpr::Binary {
-                    op: *op,
-                    left,
-                    right,
-                }),
-                Err(e) => {
-                    drop(left);
-                    Err(e)
-                }
-            }
+            resolve_right(alloc, scope, *op, right.get(), left, aggregates)
         }
         Expr::InList {
             negated,
@@ -263,13 +332,7 @@ pub fn resolve(
             list,
         } => {
             let left = boxed(alloc, scope, left.get(), aggregates)?;
-            match all_resolved(alloc, scope, list.as_slice(), aggregates) {
-                Ok(list) => negated_if(alloc, *negated, ResolvedExpr::InList { left, list }),
-                Err(e) => {
-                    drop(left);
-                    Err(e)
-                }
-            }
+            resolve_list(alloc, scope, *negated, list.as_slice(), left, aggregates)
         }
         Expr::Between {
             negated,
@@ -278,13 +341,15 @@ pub fn resolve(
             high,
         } => {
             let operand = boxed(alloc, scope, left.get(), aggregates)?;
-            let low = boxed(alloc, scope, low.get(), aggregates)?;
-            let high = boxed(alloc, scope, high.get(), aggregates)?;
-            negated_if(
-                alloc,
-                *negated,
-                ResolvedExpr::Between { operand, low, high },
-            )
+            match boxed(alloc, scope, low.get(), aggregates) {
+                Ok(low) => {
+                    resolve_high(alloc, scope, *negated, high.get(), operand, low, aggregates)
+                }
+                Err(e) => {
+                    drop(operand);
+                    Err(e)
+                }
+            }
         }
     }
 }

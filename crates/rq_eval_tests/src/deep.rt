@@ -1,5 +1,5 @@
 //! The deepest expression that is read.
-use crate::reading::has_value;
+use crate::reading::gives;
 use rq_eval::{RowView, Scope};
 use std::alloc::Global;
 use std::test::Fail;
@@ -36,7 +36,7 @@ fn the_deepest_expressions(rt: HostRuntime) -> Result<(), Fail> {
     };
     for (piece, last, wanted) in &DEEP {
         let text = repeated(alloc, 99, piece, last)?;
-        assert!(rt; has_value(alloc, &text, &row, wanted)?, "{piece}");
+        assert!(rt; gives(alloc, &text, &row, None, wanted)?, "{piece}");
     }
     Ok(())
 }

@@ -2,6 +2,8 @@
 use crate::table::text;
 use rq_eval::StmtError;
 use rq_grammar::ColumnKind;
+use rq_operators::ValueError;
+use rq_values::Text;
 use std::alloc::Global;
 use std::test::Fail;
 
@@ -19,123 +21,140 @@ fn is_shown(alloc: Global, error: StmtError, wanted: &str) -> Result<bool, Fail>
     Ok(is)
 }
 
+const FIXED: [&str; 12] = [
+    "query in execute",
+    "attempt to change database via query operation",
+    "misuse of aggregate",
+    "ORDER BY term out of range",
+    "datatype mismatch",
+    "not an integer",
+    "not a text",
+    "not a condition",
+    "not a time text",
+    "integer overflow",
+    "rowid out of range",
+    "database or disk is full",
+];
+
+/// The error of fixed words in that place of the table.
+fn fixed(at: usize) -> StmtError {
+    match at {
+        0 => StmtError::QueryInExecute,
+        1 => StmtError::ChangeInQuery,
+        2 => StmtError::MisuseOfAggregate,
+        3 => StmtError::OrderTermOutOfRange,
+        4 => StmtError::DatatypeMismatch,
+        5 => StmtError::Value(ValueError::NotInteger),
+        6 => StmtError::Value(ValueError::NotText),
+        7 => StmtError::Value(ValueError::NotCondition),
+        8 => StmtError::Value(ValueError::NotTimeText),
+        9 => StmtError::Value(ValueError::IntegerOverflow),
+        10 => StmtError::RowidOutOfRange,
+        _ => StmtError::Full,
+    }
+}
+
+const NAMED: [(&str, &str); 8] = [
+    ("t", "no such table: t"),
+    ("T t", "table T t already exists"),
+    (
+        "sqlite_x",
+        "object name reserved for internal use: sqlite_x",
+    ),
+    ("a", "duplicate column name: a"),
+    ("t", "table t has more than one primary key"),
+    ("", "no such column: "),
+    ("F", "no such function: F"),
+    ("ABS", "wrong number of arguments to function ABS()"),
+];
+
+/// The error of a name in that place of the table.
+fn named(at: usize, name: Text) -> StmtError {
+    match at {
+        0 => StmtError::NoTable(name),
+        1 => StmtError::TableExists(name),
+        2 => StmtError::ReservedName(name),
+        3 => StmtError::DuplicateColumn(name),
+        4 => StmtError::SecondPrimaryKey(name),
+        5 => StmtError::NoColumn(name),
+        6 => StmtError::NoFunction(name),
+        _ => StmtError::WrongArguments(name),
+    }
+}
+
+const OF_COLUMNS: [(&str, &str); 6] = [
+    ("ä", "table t has no column named ä"),
+    ("a", "no such column: t.a"),
+    ("a", "NOT NULL constraint failed: t.a"),
+    ("rowid", "UNIQUE constraint failed: t.rowid"),
+    ("a", "cannot store TEXT value in INTEGER column t.a"),
+    ("a", "cannot store BLOB value in TEXT column t.a"),
+];
+
+/// The error of a column in that place of the table.
+fn of_column(at: usize, table: Text, column: Text) -> StmtError {
+    match at {
+        0 => StmtError::NoColumnInTable { table, column },
+        1 => StmtError::NoQualifiedColumn { table, column },
+        2 => StmtError::NotNullFailed { table, column },
+        3 => StmtError::UniqueFailed { table, column },
+        4 => StmtError::CannotStore {
+            value: ColumnKind::Text,
+            kind: ColumnKind::Integer,
+            table,
+            column,
+        },
+        _ => StmtError::CannotStore {
+            value: ColumnKind::Blob,
+            kind: ColumnKind::Text,
+            table,
+            column,
+        },
+    }
+}
+
 #[test]
 fn errors_of_fixed_words(rt: HostRuntime) -> Result<(), Fail> {
-    let alloc = rt.alloc();
-    let shown = [
-        (StmtError::QueryInExecute, "query in execute"),
-        (
-            StmtError::ChangeInQuery,
-            "attempt to change database via query operation",
-        ),
-        (StmtError::MisuseOfAggregate, "misuse of aggregate"),
-        (StmtError::OrderTermOutOfRange, "ORDER BY term out of range"),
-        (StmtError::DatatypeMismatch, "datatype mismatch"),
-        (StmtError::NotInteger, "not an integer"),
-        (StmtError::NotText, "not a text"),
-        (StmtError::NotCondition, "not a condition"),
-        (StmtError::NotTimeText, "not a time text"),
-        (StmtError::IntegerOverflow, "integer overflow"),
-        (StmtError::RowidOutOfRange, "rowid out of range"),
-        (StmtError::Full, "database or disk is full"),
-    ];
-    for (error, wanted) in shown {
-        assert!(rt; is_shown(alloc, error, wanted)?, "{wanted}");
+    for at in 0..FIXED.len() {
+        assert!(rt; is_shown(rt.alloc(), fixed(at), FIXED[at])?, "{at}");
     }
     Ok(())
 }
 
 #[test]
-fn errors_of_a_name(rt: HostRuntime) -> Result<(), Fail> {
+fn errors_of_names(rt: HostRuntime) -> Result<(), Fail> {
     let alloc = rt.alloc();
-    let no_table = StmtError::NoTable(text(alloc, "t")?);
-    assert!(rt; is_shown(alloc, no_table, "no such table: t")?);
-    let exists = StmtError::TableExists(text(alloc, "T t")?);
-    assert!(rt; is_shown(alloc, exists, "table T t already exists")?);
-    let reserved = StmtError::ReservedName(text(alloc, "sqlite_x")?);
-    assert!(rt;
-        is_shown(
-            alloc,
-            reserved,
-            "object name reserved for internal use: sqlite_x"
-        )?
-    );
-    let duplicate = StmtError::DuplicateColumn(text(alloc, "a")?);
-    assert!(rt; is_shown(alloc, duplicate, "duplicate column name: a")?);
-    let second_key = StmtError::SecondPrimaryKey(text(alloc, "t")?);
-    assert!(rt; is_shown(alloc, second_key, "table t has more than one primary key")?);
-    let no_column = StmtError::NoColumn(text(alloc, "")?);
-    assert!(rt; is_shown(alloc, no_column, "no such column: ")?);
-    let no_function = StmtError::NoFunction(text(alloc, "F")?);
-    assert!(rt; is_shown(alloc, no_function, "no such function: F")?);
-    let arguments = StmtError::WrongArguments(text(alloc, "ABS")?);
-    assert!(rt;
-        is_shown(
-            alloc,
-            arguments,
-            "wrong number of arguments to function ABS()"
-        )?
-    );
+    for at in 0..NAMED.len() {
+        let (name, wanted) = NAMED[at];
+        let name = text(alloc, name)?;
+        assert!(rt; is_shown(alloc, named(at, name), wanted)?, "{at}");
+    }
+    for at in 0..OF_COLUMNS.len() {
+        let (name, wanted) = OF_COLUMNS[at];
+        let table = text(alloc, "t")?;
+        let column = text(alloc, name)?;
+        assert!(rt;
+            is_shown(alloc, of_column(at, table, column), wanted)?,
+            "{at}"
+        );
+    }
     Ok(())
 }
 
 #[test]
-fn errors_of_a_column(rt: HostRuntime) -> Result<(), Fail> {
-    let alloc = rt.alloc();
-    let (table, column) = (text(alloc, "t")?, text(alloc, "ä")?);
-    let no_column = StmtError::NoColumnInTable { table, column };
-    assert!(rt; is_shown(alloc, no_column, "table t has no column named ä")?);
-    let (table, column) = (text(alloc, "t")?, text(alloc, "a")?);
-    let qualified = StmtError::NoQualifiedColumn { table, column };
-    assert!(rt; is_shown(alloc, qualified, "no such column: t.a")?);
-    let (table, column) = (text(alloc, "t")?, text(alloc, "a")?);
-    let not_null = StmtError::NotNullFailed { table, column };
-    assert!(rt; is_shown(alloc, not_null, "NOT NULL constraint failed: t.a")?);
-    let (table, column) = (text(alloc, "t")?, text(alloc, "rowid")?);
-    let unique = StmtError::UniqueFailed { table, column };
-    assert!(rt; is_shown(alloc, unique, "UNIQUE constraint failed: t.rowid")?);
-    Ok(())
-}
-
-#[test]
-fn errors_of_numbers_and_kinds(rt: HostRuntime) -> Result<(), Fail> {
+fn errors_of_counts(rt: HostRuntime) -> Result<(), Fail> {
     let alloc = rt.alloc();
     let values = StmtError::WrongValueCount {
         table: text(alloc, "t")?,
         columns: 3,
         values: u64::MAX,
     };
-    assert!(rt;
-        is_shown(
-            alloc,
-            values,
-            "table t has 3 columns but 18446744073709551615 values were supplied"
-        )?
-    );
+    let wanted = "table t has 3 columns but 18446744073709551615 values were supplied";
+    assert!(rt; is_shown(alloc, values, wanted)?);
     let list = StmtError::WrongListCount {
         values: 1,
         columns: 20,
     };
     assert!(rt; is_shown(alloc, list, "1 values for 20 columns")?);
-    let store = StmtError::CannotStore {
-        value: ColumnKind::Text,
-        kind: ColumnKind::Integer,
-        table: text(alloc, "t")?,
-        column: text(alloc, "a")?,
-    };
-    assert!(rt;
-        is_shown(
-            alloc,
-            store,
-            "cannot store TEXT value in INTEGER column t.a"
-        )?
-    );
-    let blob = StmtError::CannotStore {
-        value: ColumnKind::Blob,
-        kind: ColumnKind::Text,
-        table: text(alloc, "t")?,
-        column: text(alloc, "a")?,
-    };
-    assert!(rt; is_shown(alloc, blob, "cannot store BLOB value in TEXT column t.a")?);
     Ok(())
 }

@@ -10,6 +10,8 @@ mod error_texts;
 #[cfg(test)]
 mod errors;
 #[cfg(test)]
+mod expressions;
+#[cfg(test)]
 mod moments;
 #[cfg(test)]
 mod reading;

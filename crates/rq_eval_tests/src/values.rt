@@ -1,11 +1,7 @@
 //! Expressions and their values over one row: `t (id INTEGER PRIMARY KEY, name, age, tag, gone)` with `(7, 'Fiona', 20, X'00FF', NULL)`.
-use crate::reading::has_value;
-use crate::table::{columns, fiona};
-use rq_eval::RowView;
-use std::test::Fail;
 
 /// Each value is what SQLite 3.40.1 gives for the expression over that row (the `sqlite3` of Python 3.11).
-const AS_SQLITE: [(&str, &str); 222] = [
+pub const AS_SQLITE: [(&str, &str); 222] = [
     ("1 + 2", "3"),
     ("9223372036854775807 - 1", "9223372036854775806"),
     ("-9223372036854775807 - 1", "-9223372036854775808"),
@@ -231,7 +227,7 @@ const AS_SQLITE: [(&str, &str); 222] = [
 ];
 
 /// Where SQLite turns one kind into another, or has no such thing: worked out by docs/SQL.md, "The value of an expression".
-const OWN: [(&str, &str); 9] = [
+pub const OWN: [(&str, &str); 9] = [
     ("NULL + 'a'", "NULL"),
     ("X'' - NULL", "NULL"),
     ("NULL || X'00'", "NULL"),
@@ -242,19 +238,3 @@ const OWN: [(&str, &str); 9] = [
     ("TYPEOF(?)", "'null'"),
     (":a", "NULL"),
 ];
-
-#[test]
-fn values_over_a_row(rt: HostRuntime) -> Result<(), Fail> {
-    let alloc = rt.alloc();
-    let scope = columns(alloc)?;
-    let values = fiona(alloc)?;
-    let row = RowView {
-        scope: &scope,
-        rowid: 7,
-        values: values.as_slice(),
-    };
-    for (text, wanted) in AS_SQLITE.iter().chain(&OWN) {
-        assert!(rt; has_value(alloc, text, &row, wanted)?, "{text}");
-    }
-    Ok(())
-}

@@ -5,10 +5,10 @@ use Rattle.rq_eval.specs.declared.error.StmtError.{StmtError}
 use Rattle.rq_eval.specs.declared.error.EvalError.{EvalError}
 use Rattle.rq_eval.specs.declared.error.EvalError.TheVariants.{Says, NoMemory}
 use Rattle.rq_eval.specs.Outcome.{Outcome, Answers, then_with}
-use Rattle.rq_select.specs.Checks.{Check}
+use Rattle.rq_results.specs.Checks.{Check}
 use Rattle.rq_select.specs.Select.{unless}
 use Rattle.rq_select.specs.Sorting.{Entry}
-use Rattle.rq_select.specs.Viewed.{Clears}
+use Rattle.rq_results.specs.Viewed.{Clears}
 use Rattle.rq_select.specs.Planned.{IsEntry}
 
 pub err_then : {A B : Type 0} (o : Outcome A) (f : A → Outcome B) (e : EvalError) → Answers o (Err e) → Answers (then_with o f) (Err e)

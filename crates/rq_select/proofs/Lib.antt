@@ -1,7 +1,7 @@
-pub mod Lists
 pub mod Viewing
 pub mod Plans
 pub mod OneAnswer
 pub mod Answering
 pub mod Picking
 pub mod Tests
+pub mod FirstRows

@@ -12,7 +12,7 @@ use Rattle.std.specs.FinMap.Entries.{find, is_sorted, below_all}
 use Rattle.rq_values.specs.declared.value.Value.{Value}
 use Rattle.rq_eval.specs.Outcome.{Outcome, then_with}
 use Rattle.rq_eval.specs.Names.{Row}
-use Rattle.rq_select.specs.Table.{Table, as_row, rows_of, row_at}
+use Rattle.rq_results.specs.Table.{Table, as_row, rows_of, row_at}
 use Rattle.rq_select.specs.Select.{filtered}
 use Rattle.rq_select.specs.Keys.{Fine, OnlyAt, or_none}
 
@@ -38,11 +38,11 @@ absent : (b : Bool) (x : List Value) (o : Option (List Value)) → b ≡ false �
 absent true x o e = absurd (cc)
 absent false x o e = refl
 
-left : (a b : Bool) → T (a && b) → T a
+pub left : (a b : Bool) → T (a && b) → T a
 left true b p = tt
 left false b p = p
 
-right : (a b : Bool) → T (a && b) → T b
+pub right : (a b : Bool) → T (a && b) → T b
 right true b p = p
 right false b p = absurd p
 

@@ -22,8 +22,8 @@ use Rattle.rq_select.specs.declared.planning.Plan.{Plan}
 use Rattle.rq_select.specs.declared.terms.TermBy.{TermBy}
 use Rattle.rq_select.specs.declared.terms.TermBy.TheVariants as by
 use Rattle.rq_select.specs.declared.terms.PlannedTerm.{PlannedTerm}
-use Rattle.rq_select.specs.Results.{Shown, column, expression}
-use Rattle.rq_select.specs.Checks.{Check, is_over_all, names_check, calls_check, aliased}
+use Rattle.rq_results.specs.Results.{Shown, column, expression}
+use Rattle.rq_results.specs.Checks.{Check, is_over_all, names_check, calls_check, aliased}
 use Rattle.rq_select.specs.Select as s
 use Rattle.rq_select.specs.Select.{unless, Term, rows_selected, limit_of, offset_of}
 use Rattle.rq_select.specs.Planned as p

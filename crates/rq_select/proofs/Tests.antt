@@ -11,23 +11,25 @@ use Rattle.rq_values.specs.declared.value.Value.{Value}
 use Rattle.rq_values.specs.declared.value.Value.TheVariants as v
 use Rattle.rq_grammar.specs.declared.expr.BinaryOp.{BinaryOp}
 use Rattle.rq_grammar.specs.declared.expr.BinaryOp.TheVariants as op
-use Rattle.rq_eval.specs.declared.resolved.UnaryOp.{UnaryOp}
-use Rattle.rq_eval.specs.declared.resolved.UnaryOp.TheVariants as u
+use Rattle.rq_operators.specs.declared.operators.UnaryOp.{UnaryOp}
+use Rattle.rq_operators.specs.declared.operators.UnaryOp.TheVariants as u
 use Rattle.rq_eval.specs.declared.resolved.ResolvedExpr.{ResolvedExpr}
 use Rattle.rq_eval.specs.declared.resolved.ResolvedExpr.TheVariants as x
 use Rattle.rq_eval.specs.declared.resolved.ResolvedExpr.TheOpen.{ResolvedExpr-F}
 use Rattle.rq_eval.specs.declared.resolved.ResolvedExpr.TheViews.{roll-ResolvedExpr}
 use Rattle.rq_eval.specs.declared.resolved.ResolvedExpr.TheFolds.{fold-roll-ResolvedExpr}
-use Rattle.rq_eval.specs.Outcome.{Outcome, then_with, all_of, all_behind}
-use Rattle.rq_eval.specs.Operators as o
-use Rattle.rq_eval.specs.Operators.{truth, condition, or3, not3, and3, unless_null}
-use Rattle.rq_eval.specs.Functions.{unary, binary}
+use Rattle.rq_operators.specs.Outcome as operators
+use Rattle.rq_eval.specs.Outcome.{Outcome, then_with, all_of, all_behind, stated}
+use Rattle.rq_operators.specs.Operators as o
+use Rattle.rq_operators.specs.Operators.{truth, condition, or3, not3, and3, unless_null}
+use Rattle.rq_operators.specs.Functions.{unary, binary}
 use Rattle.rq_eval.specs.Names.{Row, value_at}
 use Rattle.rq_eval.specs.Resolved.{evaluated, evaluated_step}
 use Rattle.rq_eval.specs.Value.{Gives, on_one, on_two, in_values, between_values}
 use Rattle.rq_select.specs.Select.{filtered, is_true, judged}
 use Rattle.rq_select.specs.Planned.{passes}
-use Rattle.rq_select.specs.Table.{Table, as_row, row_at, Finds}
+use Rattle.rq_results.specs.Table.{Table, as_row, row_at}
+use Rattle.rq_select.specs.Finding.{Finds}
 use Rattle.rq_select.specs.declared.table.Lookup.{Lookup}
 use Rattle.rq_select.specs.declared.table.Lookup.TheVariants as lookup
 use Rattle.rq_select.specs.Keys.{IsPlain, IsTest, AlwaysPlain, AlwaysTest, AllPlain, is_comparison, is_junction, IsMet, EqualWants, Fine, MetByNone, MetByOnly, Tells, or_none, Left}
@@ -76,7 +78,7 @@ plain_column i r = (value_at r i, column_ok i r)
 pub plain_next : (es : List ResolvedExpr) (i : ℕ) (e : ResolvedExpr) → i < length es → e ≡ get_or es i e → AlwaysPlain e → AllPlain (drop (i + 1) es) → AllPlain (drop i es)
 plain_next es i e lt is p h = subst AllPlain (sym (drop-cons es i e lt)) (subst AlwaysPlain is p, subst (λ n. AllPlain (drop n es)) (add-one i) h)
 
-plain_list : (es : List ResolvedExpr) → AllPlain es → (r : Row) (there : List Value) → (vs : List Value) × (all_behind there (map (λ (g : Gives). g r) (map (evaluated []) es)) ≡ Ok vs)
+pub plain_list : (es : List ResolvedExpr) → AllPlain es → (r : Row) (there : List Value) → (vs : List Value) × (all_behind there (map (λ (g : Gives). g r) (map (evaluated []) es)) ≡ Ok vs)
 plain_list [] h r there = (there, refl)
 plain_list (e ∷ es) h r there =
     let p = h.0 r in
@@ -85,7 +87,7 @@ plain_list (e ∷ es) h r there =
 
 -- ---- tests
 
-compares_values : (h : BinaryOp) → is_comparison h ≡ true → (a b : Value) → IsTest (binary h a b)
+compares_values : (h : BinaryOp) → is_comparison h ≡ true → (a b : Value) → IsTest (stated (binary h a b))
 compares_values op.Or t a b = absurd (cc)
 compares_values op.And t a b = absurd (cc)
 compares_values op.Equal t a b = (unless_null a b (is_eq (value_cmp a b)), refl)
@@ -110,10 +112,10 @@ condition_truth None = refl
 condition_truth (Some true) = refl
 condition_truth (Some false) = refl
 
-logical_truths : (f : Option Bool → Option Bool → Option Bool) (a b : Option Bool) → IsTest (o.logical f (truth a) (truth b))
-logical_truths f a b = (f a b, ap (λ z. then_with z (λ p. then_with (condition (truth b)) (λ q. Ok (truth (f p q))))) (condition_truth a) ∙ ap (λ z. then_with z (λ q. Ok (truth (f a q)))) (condition_truth b))
+logical_truths : (f : Option Bool → Option Bool → Option Bool) (a b : Option Bool) → IsTest (stated (o.logical f (truth a) (truth b)))
+logical_truths f a b = (f a b, ap (λ z. stated (operators.then_with z (λ p. operators.then_with (condition (truth b)) (λ q. Ok (truth (f p q)))))) (condition_truth a) ∙ ap (λ z. stated (operators.then_with z (λ q. Ok (truth (f a q))))) (condition_truth b))
 
-joins_values : (h : BinaryOp) → is_junction h ≡ true → (a b : Option Bool) → IsTest (binary h (truth a) (truth b))
+joins_values : (h : BinaryOp) → is_junction h ≡ true → (a b : Option Bool) → IsTest (stated (binary h (truth a) (truth b)))
 joins_values op.Or t a b = logical_truths or3 a b
 joins_values op.And t a b = logical_truths and3 a b
 joins_values op.Equal t a b = absurd (cc)
@@ -133,8 +135,8 @@ joins_values op.Div t a b = absurd (cc)
 joins_values op.Rem t a b = absurd (cc)
 joins_values op.Concat t a b = absurd (cc)
 
-two_then : (h : BinaryOp) (p q : Outcome Value) (a b : Value) → p ≡ Ok a → q ≡ Ok b → IsTest (binary h a b) → IsTest (then_with p (λ y. then_with q (binary h y)))
-two_then h p q a b e f t = (t.0, ap (λ z. then_with z (λ y. then_with q (binary h y))) e ∙ ap (λ z. then_with z (binary h a)) f ∙ t.1)
+two_then : (h : BinaryOp) (p q : Outcome Value) (a b : Value) → p ≡ Ok a → q ≡ Ok b → IsTest (stated (binary h a b)) → IsTest (then_with p (λ y. then_with q (λ z. stated (binary h y z))))
+two_then h p q a b e f t = (t.0, ap (λ o. then_with o (λ y. then_with q (λ z. stated (binary h y z)))) e ∙ ap (λ o. then_with o (λ z. stated (binary h a z))) f ∙ t.1)
 
 pub test_comparison : (h : BinaryOp) (y z : ResolvedExpr) → is_comparison h ≡ true → AlwaysPlain y → AlwaysPlain z → AlwaysTest (x.Binary h y z)
 test_comparison h y z t p q r = subst (λ (f : Gives). IsTest (f r)) (sym (ev_binary h y z)) (two_then h (evaluated [] y r) (evaluated [] z r) (p r).0 (q r).0 (p r).1 (q r).1 (compares_values h t (p r).0 (q r).0))
@@ -143,7 +145,7 @@ pub test_junction : (h : BinaryOp) (y z : ResolvedExpr) → is_junction h ≡ tr
 test_junction h y z t p q r = subst (λ (f : Gives). IsTest (f r)) (sym (ev_binary h y z)) (two_then h (evaluated [] y r) (evaluated [] z r) (truth (p r).0) (truth (q r).0) (p r).1 (q r).1 (joins_values h t (p r).0 (q r).0))
 
 pub test_not : (y : ResolvedExpr) → AlwaysTest y → AlwaysTest (x.Unary u.Not y)
-test_not y p r = subst (λ (f : Gives). IsTest (f r)) (sym (ev_unary u.Not y)) (not3 (p r).0, ap (λ z. then_with z (unary u.Not)) (p r).1 ∙ ap (λ z. then_with z (λ b. Ok (truth (not3 b)))) (condition_truth (p r).0))
+test_not y p r = subst (λ (f : Gives). IsTest (f r)) (sym (ev_unary u.Not y)) (not3 (p r).0, ap (λ z. then_with z (λ a. stated (unary u.Not a))) (p r).1 ∙ ap (λ z. stated (operators.then_with z (λ b. Ok (truth (not3 b))))) (condition_truth (p r).0))
 
 pub test_in_list : (y : ResolvedExpr) (ys : List ResolvedExpr) → AlwaysPlain y → AllPlain ys → AlwaysTest (x.InList y ys)
 test_in_list y ys p qs r =
@@ -192,15 +194,15 @@ abbrev ok_or_null : Outcome Value → Value
 ok_or_null (Ok y) = y
 ok_or_null (Err e) = v.Null
 
-abbrev ok_or_none : Outcome (Option Bool) → Option Bool
+abbrev ok_or_none : operators.Outcome (Option Bool) → Option Bool
 ok_or_none (Ok y) = y
 ok_or_none (Err e) = None
 
 met_truth : (q : Option Bool) → IsMet (Ok (truth q)) → truth q ≡ truth (Some true)
 met_truth q h = ap truth (ap ok_or_none (sym (condition_truth q) ∙ ap condition (ap ok_or_null h.1) ∙ h.2))
 
-equal_is : (y z : ResolvedExpr) (r : Row) (a b : Value) → evaluated [] y r ≡ Ok a → evaluated [] z r ≡ Ok b → then_with (evaluated [] y r) (λ c. then_with (evaluated [] z r) (binary op.Equal c)) ≡ Ok (truth (unless_null a b (is_eq (value_cmp a b))))
-equal_is y z r a b e f = ap (λ t. then_with t (λ c. then_with (evaluated [] z r) (binary op.Equal c))) e ∙ ap (λ t. then_with t (binary op.Equal a)) f
+equal_is : (y z : ResolvedExpr) (r : Row) (a b : Value) → evaluated [] y r ≡ Ok a → evaluated [] z r ≡ Ok b → on_two op.Equal (evaluated [] y) (evaluated [] z) r ≡ Ok (truth (unless_null a b (is_eq (value_cmp a b))))
+equal_is y z r a b e f = ap (λ t. then_with t (λ c. then_with (evaluated [] z r) (λ d. stated (binary op.Equal c d)))) e ∙ ap (λ t. then_with t (λ d. stated (binary op.Equal a d))) f
 
 pub column_literal : (i : ℕ) (y : Value) → EqualWants (x.Column i) (x.Literal y) i y
 column_literal i y r h = one_value (value_at r i) y (met_truth _ (subst IsMet (equal_is (x.Column i) (x.Literal y) r (value_at r i) y (column_ok i r) (literal_ok y r)) h))
@@ -221,10 +223,10 @@ both_true (Some false) None h = absurd (cc)
 both_true (Some false) (Some true) h = absurd (cc)
 both_true (Some false) (Some false) h = absurd (cc)
 
-abbrev Sides : Outcome (Option Bool) → Outcome (Option Bool) → Type 0
+abbrev Sides : operators.Outcome (Option Bool) → operators.Outcome (Option Bool) → Type 0
 Sides c d = (c ≡ Ok (Some true)) × (d ≡ Ok (Some true))
 
-junction : (c d : Outcome (Option Bool)) (z : Value) → then_with c (λ a. then_with d (λ b. Ok (truth (and3 a b)))) ≡ Ok z → condition z ≡ Ok (Some true) → Sides c d
+junction : (c d : operators.Outcome (Option Bool)) (z : Value) → stated (operators.then_with c (λ a. operators.then_with d (λ b. Ok (truth (and3 a b))))) ≡ Ok z → condition z ≡ Ok (Some true) → Sides c d
 junction (Err e) d z f g = absurd (cc)
 junction (Ok p) (Err e) z f g = absurd (cc)
 junction (Ok p) (Ok q) z f g =
@@ -232,7 +234,7 @@ junction (Ok p) (Ok q) z f g =
     let s = both_true p q t in
     (ap (λ y. Ok y) s.0, ap (λ y. Ok y) s.1)
 
-met_sides : (a b : Outcome Value) → IsMet (then_with a (λ y. then_with b (binary op.And y))) → IsMet a × IsMet b
+met_sides : (a b : Outcome Value) → IsMet (then_with a (λ y. then_with b (λ z. stated (binary op.And y z)))) → IsMet a × IsMet b
 met_sides (Err e) b h = lost h.1
   where
     lost : {P : Type 0} {z : Value} → ◌≡◌ {A = Outcome Value} (Err e) (Ok z) → P
@@ -264,13 +266,13 @@ tells_right t a b (lookup.Row r) f = (f.0, λ k vs g m. f.1 k vs g (met_sides (e
 
 pub fine_of : (e : ResolvedExpr) → AlwaysTest e → Fine (passes (Some e))
 fine_of e h r = let t = h r in
-    (is_true t.0, ap judged t.1 ∙ ap (λ o. then_with o (λ b. Ok (is_true b))) (condition_truth t.0))
+    (is_true t.0, ap judged t.1 ∙ ap (λ o. then_with (stated o) (λ b. Ok (is_true b))) (condition_truth t.0))
 
 abbrev said : Outcome Bool → Bool
 said (Ok b) = b
 said (Err e) = false
 
-met_condition : (c : Outcome (Option Bool)) → then_with c (λ b. Ok (is_true b)) ≡ Ok true → c ≡ Ok (Some true)
+met_condition : (c : operators.Outcome (Option Bool)) → then_with (stated c) (λ b. Ok (is_true b)) ≡ Ok true → c ≡ Ok (Some true)
 met_condition (Err e) h = absurd (cc)
 met_condition (Ok None) h = absurd (clash_bool (ap said h))
   where

@@ -6,14 +6,14 @@ use Rattle.rq_eval.specs.declared.resolved.ResolvedExpr.{ResolvedExpr}
 use Rattle.rq_grammar.specs.declared.expr.BinaryOp.{BinaryOp}
 use Rattle.rq_grammar.specs.declared.expr.BinaryOp.TheVariants as op
 use Rattle.rq_eval.specs.declared.resolved.ResolvedExpr.TheVariants as expr
-use Rattle.rq_eval.specs.Outcome.{Outcome, then_with}
-use Rattle.rq_eval.specs.Functions.{binary}
-use Rattle.rq_eval.specs.Operators.{truth, condition}
+use Rattle.rq_eval.specs.Outcome.{Outcome}
+use Rattle.rq_operators.specs.Operators.{truth, condition}
 use Rattle.rq_eval.specs.Names.{Row, row_of, value_at}
 use Rattle.rq_eval.specs.Resolved.{evaluated}
+use Rattle.rq_eval.specs.Value.{on_two}
 use Rattle.rq_select.specs.declared.table.Lookup.{Lookup}
 use Rattle.rq_select.specs.declared.table.Lookup.TheVariants as lookup
-use Rattle.rq_select.specs.Table.{Table, as_row, rows_of, row_at}
+use Rattle.rq_results.specs.Table.{Table, as_row, rows_of, row_at}
 use Rattle.rq_select.specs.Select.{Test, filtered}
 use Rattle.rq_select.specs.Planned.{passes}
 
@@ -83,7 +83,7 @@ IsMet o = (x : Value) × (o ≡ Ok x) × (condition x ≡ Ok (Some true))
 
 -- where `left = right` is true, the value stands at the place
 abbrev pub EqualWants : ResolvedExpr → ResolvedExpr → ℕ → Value → Type 0
-EqualWants a b i y = (r : Row) → IsMet (then_with (evaluated [] a r) (λ c. then_with (evaluated [] b r) (binary op.Equal c))) → value_at r i ≡ y
+EqualWants a b i y = (r : Row) → IsMet (on_two op.Equal (evaluated [] a) (evaluated [] b) r) → value_at r i ≡ y
 
 -- ---- tests of rows
 

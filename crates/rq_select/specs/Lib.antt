@@ -1,8 +1,6 @@
-pub mod Table
-pub mod Results
-pub mod Checks
+pub mod Finding
 pub mod Sorting
 pub mod Select
-pub mod Viewed
 pub mod Planned
 pub mod Keys
+pub mod Stopping

@@ -21,8 +21,8 @@ use Rattle.rq_select.specs.declared.sorting.SortKey.{SortKey}
 use Rattle.rq_select.specs.declared.terms.TermBy.{TermBy}
 use Rattle.rq_select.specs.declared.terms.TermBy.TheVariants as by
 use Rattle.rq_select.specs.declared.terms.PlannedTerm.{PlannedTerm}
-use Rattle.rq_select.specs.Results.{Shown, column, expression}
-use Rattle.rq_select.specs.Checks.{is_over_all, names_check, calls_check, aliased}
+use Rattle.rq_results.specs.Results.{Shown, column, expression}
+use Rattle.rq_results.specs.Checks.{is_over_all, names_check, calls_check, aliased}
 use Rattle.rq_select.specs.Sorting.{Place, Entry, in_order}
 use Rattle.rq_select.specs.Select.{unless, Test, judged, Ranks, by_result, number_of, numbered, Term, limit_of, offset_of, filtered, entry_of, cut, shown_rows}
 

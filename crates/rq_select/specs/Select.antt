@@ -16,13 +16,13 @@ use Rattle.rq_statement.specs.declared.res.Res.{Res}
 use Rattle.rq_statement.specs.declared.res.Res.TheVariants as res
 use Rattle.rq_eval.specs.declared.error.StmtError.TheVariants as error
 use Rattle.rq_eval.specs.declared.row.Scope.{Scope}
-use Rattle.rq_eval.specs.Outcome.{Outcome, then_with, all_of}
-use Rattle.rq_eval.specs.Operators.{condition}
+use Rattle.rq_eval.specs.Outcome.{Outcome, then_with, all_of, stated}
+use Rattle.rq_operators.specs.Operators.{condition}
 use Rattle.rq_eval.specs.Names.{Row, value_at}
 use Rattle.rq_eval.specs.Value.{Gives, value_in, value, no_row}
-use Rattle.rq_select.specs.Table.{Table}
-use Rattle.rq_select.specs.Results.{Source, source_of, Shown, column, expression, spread, heading, type_of}
-use Rattle.rq_select.specs.Checks.{Check, is_over_all, names_check, calls_check, aliased}
+use Rattle.rq_results.specs.Table.{Table}
+use Rattle.rq_results.specs.Results.{Source, source_of, Shown, column, expression, spread, heading, type_of}
+use Rattle.rq_results.specs.Checks.{Check, is_over_all, names_check, calls_check, aliased}
 use Rattle.rq_select.specs.declared.sorting.SortTerm.{SortTerm}
 use Rattle.rq_select.specs.Sorting.{Entry, sort_term, in_order}
 
@@ -41,7 +41,7 @@ Test = Row → Outcome Bool
 
 -- whether a value is true
 abbrev pub judged : Outcome Value → Outcome Bool
-judged o = then_with o (λ x. then_with (condition x) (λ b. Ok (is_true b)))
+judged o = then_with o (λ x. then_with (stated (condition x)) (λ b. Ok (is_true b)))
 
 abbrev pub meets : Scope → Option Expr → Test
 meets s None r = Ok true

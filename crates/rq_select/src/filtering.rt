@@ -2,13 +2,13 @@
 
 ghost use Rattle.std.specs.Prelude.{[], map, Ok};
 ghost use Rattle.rq_eval.specs.Names.{row_of};
-ghost use Rattle.rq_eval.specs.Operators.{condition};
 ghost use Rattle.rq_eval.specs.Outcome.{Answers, then_with};
 ghost use Rattle.rq_select.specs.Planned as planned;
 ghost use Rattle.rq_select.specs.Select as spec;
 
-use crate::pushing::push;
 use rq_eval::{EvalError, ResolvedExpr, RowView, StmtError, evaluate};
+use rq_operators::condition;
+use rq_results::push;
 use rq_values::Value;
 use std::alloc::Global;
 
@@ -16,11 +16,10 @@ use std::alloc::Global;
 fn is_true(value: &Value) -> Result<bool, EvalError>
     ensures { Answers (spec.judged (Ok value.now)) result }
 {
-    match value {
-        Value::Null => Ok(false),
-        Value::Int(number) => Ok(*number != 0),
-        Value::Text(_) => Err(EvalError::Says(StmtError::NotCondition)),
-        Value::Blob(_) => Err(EvalError::Says(StmtError::NotCondition)),
+    match condition(value) {
+        Ok(Some(is)) => Ok(is),
+        Ok(None) => Ok(false),
+        Err(error) => Err(EvalError::Says(StmtError::Value(error))),
     }
 }
 

@@ -2,13 +2,14 @@
 
 ghost use Rattle.std.specs.Prelude.{◌≡◌, true, [], ◌∷◌, map, Some, IfOk, IfSome};
 ghost use Rattle.rq_eval.specs.Names.{row_of};
-ghost use Rattle.rq_eval.specs.declared.resolved.UnaryOp.TheVariants as u;
+ghost use Rattle.rq_operators.specs.declared.operators.UnaryOp.TheVariants as u;
 ghost use Rattle.rq_select.specs.Keys as spec;
 
-use crate::pushing::push;
 use crate::table::{Lookup, TableView};
-use rq_eval::{ResolvedExpr, RowView, UnaryOp};
+use rq_eval::{ResolvedExpr, RowView};
 use rq_grammar::BinaryOp;
+use rq_operators::UnaryOp;
+use rq_results::push;
 use rq_values::{NoMemory, Value};
 use std::alloc::Global;
 
@@ -23,7 +24,7 @@ fn is_plain(expr: &ResolvedExpr) -> bool
     }
 }
 
-fn are_plain(list: &[ResolvedExpr]) -> bool
+pub fn are_plain(list: &[ResolvedExpr]) -> bool
     ensures { result ≡ true → spec.AllPlain list.now }
 {
     for expr in list {

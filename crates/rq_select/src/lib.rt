@@ -4,21 +4,17 @@
 //! docs/SQL.md, "What SELECT answers".
 #![tactic(auto)]
 
-mod checking;
 mod filtering;
-mod headings;
 mod keys;
 mod laws;
 mod planning;
-mod pushing;
-mod results;
 mod selecting;
 mod showing;
 mod sorting;
+mod stopping;
 mod table;
 mod terms;
 
-pub use checking::Allowed;
 pub use laws::one_select;
 pub use selecting::select;
 pub use sorting::{SortKey, SortTerm};

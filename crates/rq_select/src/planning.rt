@@ -5,13 +5,12 @@ ghost use Rattle.std.specs.Option.{option_map};
 ghost use Rattle.rq_eval.specs.Outcome.{Answers, then_with, all_of};
 ghost use Rattle.rq_eval.specs.Resolved.{resolved};
 ghost use Rattle.rq_select.specs.Planned as spec;
-ghost use Rattle.rq_select.specs.Viewed.{shown};
+ghost use Rattle.rq_results.specs.Viewed.{shown};
 
-use crate::checking::{check, is_over_all};
-use crate::results::Shown;
 use crate::terms::{PlannedTerm, limit_of, offset_of, planned_terms};
 use rq_eval::{EvalError, ResolvedExpr, Scope, resolve};
 use rq_grammar::{Expr, SelectStmt};
+use rq_results::{Shown, check, is_over_all};
 use rq_values::NoMemory;
 use sqlite_items::Items;
 use std::alloc::Global;

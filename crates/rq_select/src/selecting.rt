@@ -4,20 +4,21 @@ ghost use Rattle.std.specs.Prelude.{map, Ok, Err};
 ghost use Rattle.std.specs.Option.{option_map, option_copied};
 ghost use Rattle.rq_eval.specs.Names.{row_of};
 ghost use Rattle.rq_eval.specs.Outcome.{Answers};
-ghost use Rattle.rq_select.specs.Results.{no_source, table_source, no_such_table};
+ghost use Rattle.rq_results.specs.Results.{no_source, table_source, no_such_table};
 ghost use Rattle.rq_select.specs.Planned as planned;
 ghost use Rattle.rq_select.specs.Select as spec;
-ghost use Rattle.rq_select.specs.Table.{scope_of, rows_of};
-ghost use Rattle.rq_select.specs.Viewed.{shown};
+ghost use Rattle.rq_select.specs.Stopping.{IsEnough};
+ghost use Rattle.rq_results.specs.Table.{scope_of, rows_of};
+ghost use Rattle.rq_results.specs.Viewed.{shown};
 
-use crate::headings::{headings, types};
 use crate::keys::rows_for;
 use crate::planning::{Plan, plan_of};
-use crate::results::{Shown, spread};
 use crate::showing::rows_planned;
+use crate::stopping::enough_rows;
 use crate::table::TableView;
 use rq_eval::{EvalError, RowView, Scope, StmtError, names_are_found_once};
 use rq_grammar::{ColumnDef, SelectStmt};
+use rq_results::{Shown, headings, spread, types};
 use rq_statement::Res;
 use rq_values::{Seq, Text, TryCopy, Value};
 use std::alloc::Global;
@@ -98,8 +99,8 @@ fn selected_from_nothing(alloc: Global, stmt: &SelectStmt) -> Result<Res, EvalEr
     }
 }
 
-/// What a plan shows of a table.
-fn shown_of_table<T: TableView>(
+/// What a plan shows of the rows of a table that its WHERE is to be evaluated over.
+fn shown_of_found<T: TableView>(
     alloc: Global,
     plan: &Plan,
     table: &T,
@@ -109,6 +110,36 @@ fn shown_of_table<T: TableView>(
     match rows_for(alloc, &plan.filter, table) {
         Ok(rows) => rows_planned(alloc, plan, rows.as_slice()),
         Err(_) => Err(EvalError::NoMemory),
+    }
+}
+
+/// What a plan shows of the first rows of a table, which are enough.
+fn shown_of_first<T: TableView>(
+    alloc: Global,
+    plan: &Plan,
+    table: &T,
+    most: usize,
+) -> Result<Seq<Seq<Value>>, EvalError>
+    requires { IsEnough plan.now most }
+    ensures { Answers (planned.rows_planned plan.now (rows_of (T.means table.now))) result }
+{
+    match table.rows(alloc, Some(most)) {
+        Ok(rows) => rows_planned(alloc, plan, rows.as_slice()),
+        Err(_) => Err(EvalError::NoMemory),
+    }
+}
+
+/// What a plan shows of a table.
+fn shown_of_table<T: TableView>(
+    alloc: Global,
+    plan: &Plan,
+    table: &T,
+) -> Result<Seq<Seq<Value>>, EvalError>
+    ensures { Answers (planned.rows_planned plan.now (rows_of (T.means table.now))) result }
+{
+    match enough_rows(plan) {
+        Some(most) => shown_of_first(alloc, plan, table, most),
+        None => shown_of_found(alloc, plan, table),
     }
 }
 

@@ -11,10 +11,10 @@ ghost use Rattle.rq_select.specs.Sorting as sorting;
 
 use crate::filtering::filtered;
 use crate::planning::Plan;
-use crate::pushing::push;
 use crate::sorting::{SortKey, SortTerm};
 use crate::terms::{PlannedTerm, TermBy};
 use rq_eval::{EvalError, ResolvedExpr, RowView, Scope, evaluate};
+use rq_results::push;
 use rq_values::{Seq, TryCopy, Value};
 use sqlite_items::at;
 use std::alloc::{AllocError, Global};

@@ -3,7 +3,8 @@
 ghost use Rattle.std.specs.Prelude.{◌≡◌, map, IfOk};
 ghost use Rattle.rq_eval.specs.Names.{row_of};
 ghost use Rattle.rq_select.specs.Select.{at_most};
-ghost use Rattle.rq_select.specs.Table.{Table, Finds, scope_of, rows_of};
+ghost use Rattle.rq_results.specs.Table.{Table, scope_of, rows_of};
+ghost use Rattle.rq_select.specs.Finding.{Finds};
 
 use rq_eval::{RowView, Scope};
 use rq_grammar::ColumnDef;

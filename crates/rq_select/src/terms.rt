@@ -5,12 +5,11 @@ ghost use Rattle.rq_eval.specs.Outcome.{Answers};
 ghost use Rattle.rq_eval.specs.Outcome as outcome;
 ghost use Rattle.rq_select.specs.Planned as planned;
 ghost use Rattle.rq_select.specs.Select as spec;
-ghost use Rattle.rq_select.specs.Viewed.{shown};
+ghost use Rattle.rq_results.specs.Viewed.{shown};
 
-use crate::checking::aliased;
-use crate::results::Shown;
 use rq_eval::{EvalError, ResolvedExpr, Scope, StmtError, resolve};
 use rq_grammar::{Expr, OrderTerm};
+use rq_results::{Shown, aliased};
 use rq_values::Value;
 use sqlite_items::Items;
 use std::alloc::Global;

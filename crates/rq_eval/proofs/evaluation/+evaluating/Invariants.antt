@@ -1,5 +1,6 @@
 use Rattle.std.proofs.Common.{◌≡◌, drop, map}
 use Rattle.rq_eval.specs.Outcome.{all_behind}
+use Rattle.rq_operators.specs.Aggregates.{start}
 use Rattle.rq_eval.specs.Aggregates as aggregates
 use Rattle.rq_eval.specs.Names.{row_of}
 use Rattle.rq_eval.specs.Resolved as spec
@@ -13,4 +14,4 @@ invariant-all_evaluated-loop-expr l =
 abbrev pub invariant-over-loop-row : goal.invariant-over-loop-row
 invariant-over-loop-row l =
     aggregates.over l.op (spec.evaluated (map row_of l.rows) l.operand) l.so_far (map row_of (drop l.row-index l.rows))
-    ≡ aggregates.over l.op (spec.evaluated (map row_of l.rows) l.operand) (aggregates.start l.op) (map row_of l.rows)
+    ≡ aggregates.over l.op (spec.evaluated (map row_of l.rows) l.operand) (start l.op) (map row_of l.rows)

@@ -2,7 +2,7 @@ use Rattle.std.proofs.Common.{sym, subst, map, List, Err}
 use Rattle.rq_grammar.specs.declared.stmt.OrderTerm.{OrderTerm}
 use Rattle.rq_eval.specs.Outcome.{Answers, then_with, all_of}
 use Rattle.rq_select.specs.Planned as spec
-use Rattle.rq_select.specs.Viewed.{shown}
+use Rattle.rq_results.specs.Viewed.{shown}
 use Rattle.rq_select.proofs.Answering.{err_then}
 use Rattle.rq_select.proofs.planning.checked_plan.Goals as goal
 

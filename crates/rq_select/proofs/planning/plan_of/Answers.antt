@@ -1,9 +1,9 @@
 use Rattle.std.proofs.Common.{map, subst, Bool, Err}
 use Rattle.std.specs.Option.{option_or}
 use Rattle.rq_eval.specs.Outcome.{then_with, all_of}
-use Rattle.rq_select.specs.Checks.{names_check, calls_check, is_over_all}
+use Rattle.rq_results.specs.Checks.{names_check, calls_check, is_over_all}
 use Rattle.rq_select.specs.Planned as spec
-use Rattle.rq_select.specs.Viewed.{shown, Clears}
+use Rattle.rq_results.specs.Viewed.{shown, Clears}
 use Rattle.rq_select.proofs.Answering.{check_ok, check_err}
 use Rattle.rq_select.proofs.planning.plan_of.Goals as goal
 

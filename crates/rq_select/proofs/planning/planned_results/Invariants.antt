@@ -1,6 +1,6 @@
 use Rattle.std.proofs.Common.{◌≡◌, ◌++◌, map, drop}
 use Rattle.rq_select.specs.Planned as spec
-use Rattle.rq_select.specs.Viewed.{shown}
+use Rattle.rq_results.specs.Viewed.{shown}
 use Rattle.rq_select.proofs.planning.planned_results.Given as goal
 
 abbrev pub invariant-loop-item : goal.invariant-loop-item

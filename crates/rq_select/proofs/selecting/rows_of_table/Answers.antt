@@ -2,9 +2,9 @@ use Rattle.std.proofs.Common.{sym, subst, map, List, Err}
 use Rattle.rq_values.specs.declared.value.Value.{Value}
 use Rattle.rq_eval.specs.declared.row.Scope.{Scope}
 use Rattle.rq_eval.specs.Outcome.{Outcome, Answers, then_with}
-use Rattle.rq_select.specs.Table.{scope_of, rows_of}
+use Rattle.rq_results.specs.Table.{scope_of, rows_of}
 use Rattle.rq_select.specs.Planned as planned
-use Rattle.rq_select.specs.Viewed.{shown}
+use Rattle.rq_results.specs.Viewed.{shown}
 use Rattle.rq_select.proofs.Plans.{selected_is}
 use Rattle.rq_select.proofs.Answering.{err_then}
 use Rattle.rq_select.proofs.selecting.rows_of_table.Goals as goal

@@ -3,7 +3,7 @@ use Rattle.rq_values.specs.declared.value.Value.{Value}
 use Rattle.rq_eval.specs.Names.{row_of}
 use Rattle.rq_eval.specs.Outcome.{Outcome, Answers, then_with}
 use Rattle.rq_select.specs.Planned as planned
-use Rattle.rq_select.specs.Viewed.{shown}
+use Rattle.rq_results.specs.Viewed.{shown}
 use Rattle.rq_select.proofs.Plans.{selected_is}
 use Rattle.rq_select.proofs.Answering.{err_then}
 use Rattle.rq_select.proofs.selecting.rows_selected.Goals as goal

@@ -1,8 +1,8 @@
 use Rattle.std.proofs.Common.{ap, subst, ◌∙◌, map, List, length}
 use Rattle.rq_eval.specs.Outcome.{Answers}
-use Rattle.rq_select.specs.Results.{Shown, table_source, spread}
+use Rattle.rq_results.specs.Results.{Shown, table_source, spread}
 use Rattle.rq_select.specs.Select as spec
-use Rattle.rq_select.specs.Viewed.{shown}
+use Rattle.rq_results.specs.Viewed.{shown}
 use Rattle.rq_select.proofs.selecting.selected_from_table.Goals as goal
 
 pub returns-in-Ok : goal.returns-in-Ok

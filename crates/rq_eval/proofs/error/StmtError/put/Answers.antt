@@ -51,20 +51,8 @@ returns-in-OrderTermOutOfRange c = rw c.in-OrderTermOutOfRange.is c.push_plain-i
 pub returns-in-DatatypeMismatch : goal.returns-in-DatatypeMismatch
 returns-in-DatatypeMismatch c = rw c.in-DatatypeMismatch.is c.push_plain-in-DatatypeMismatch.ensures.ok
 
-pub returns-in-NotInteger : goal.returns-in-NotInteger
-returns-in-NotInteger c = rw c.in-NotInteger.is c.push_plain-in-NotInteger.ensures.ok
-
-pub returns-in-NotText : goal.returns-in-NotText
-returns-in-NotText c = rw c.in-NotText.is c.push_plain-in-NotText.ensures.ok
-
-pub returns-in-NotCondition : goal.returns-in-NotCondition
-returns-in-NotCondition c = rw c.in-NotCondition.is c.push_plain-in-NotCondition.ensures.ok
-
-pub returns-in-NotTimeText : goal.returns-in-NotTimeText
-returns-in-NotTimeText c = rw c.in-NotTimeText.is c.push_plain-in-NotTimeText.ensures.ok
-
-pub returns-in-IntegerOverflow : goal.returns-in-IntegerOverflow
-returns-in-IntegerOverflow c = rw c.in-IntegerOverflow.is c.push_plain-in-IntegerOverflow.ensures.ok
+pub returns-in-Value : goal.returns-in-Value
+returns-in-Value c = rw c.in-Value.is (rw c.value_words.ensures.words at c.push_plain-in-Value.ensures.ok)
 
 pub returns-in-CannotStore : goal.returns-in-CannotStore
 returns-in-CannotStore c = rw c.in-CannotStore.is c.put_cannot_store.ensures

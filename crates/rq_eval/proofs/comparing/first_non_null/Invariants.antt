@@ -1,6 +1,0 @@
-use Rattle.std.proofs.Common.{◌≡◌, drop}
-use Rattle.rq_eval.specs.Operators as spec
-use Rattle.rq_eval.proofs.comparing.first_non_null.Given as goal
-
-abbrev pub invariant-loop-value : goal.invariant-loop-value
-invariant-loop-value l = spec.first_non_null (drop l.value-index l.list) ≡ spec.first_non_null l.list

@@ -1,6 +1,0 @@
-use Rattle.rq_eval.specs.Functions.{function_of}
-use Rattle.rq_eval.proofs.functions.function_of.Goals as goal
-
-pub returns : goal.returns
-unfolding function_of
-returns c = c.named_among.ensures

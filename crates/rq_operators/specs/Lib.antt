@@ -1,0 +1,5 @@
+pub mod Aggregates
+pub mod Functions
+pub mod Operators
+pub mod Outcome
+pub mod Texts

@@ -1,0 +1,4 @@
+pub mod Table
+pub mod Results
+pub mod Checks
+pub mod Viewed
