@@ -4,6 +4,7 @@ ghost use Rattle.std.specs.Prelude.{◌≡◌, [], map};
 ghost use Rattle.std.specs.Option.{option_map, option_or, option_copied, option_and_then};
 ghost use Rattle.rq_operators.specs.Functions.{function_of as called};
 ghost use Rattle.rq_results.specs.Checks as spec;
+ghost use Rattle.rq_results.specs.declared.checking.Allowed.TheVariants as allowed;
 ghost use Rattle.rq_eval.specs.Names.{is_same_name as same_name};
 ghost use Rattle.rq_results.specs.Results as results;
 ghost use Rattle.rq_results.specs.Viewed.{shown, defect_error, look_for, IsSaid, Clears};
@@ -545,6 +546,16 @@ fn error_of(alloc: Global, defect: Defect<'_>) -> EvalError
     }
 }
 
+/// Nothing, or the error of a defect.
+fn cleared(alloc: Global, defect: Option<Defect<'_>>) -> Result<(), EvalError>
+    ensures { Clears (option_map defect_error defect.entry) result }
+{
+    match defect {
+        Some(defect) => Err(error_of(alloc, defect)),
+        None => Ok(()),
+    }
+}
+
 /// Looks at all names of a select, and then at all its calls.
 pub fn check<'a>(
     alloc: Global,
@@ -556,8 +567,31 @@ pub fn check<'a>(
     ensures { Clears (option_or (spec.names_check scope.now (map shown items.now) stmt.now) (spec.calls_check over_all (map shown items.now) stmt.now)) result }
 {
     let calls = calls_check(over_all, items, stmt);
-    match first_of(names_check(scope, items, stmt), calls) {
-        Some(defect) => Err(error_of(alloc, defect)),
-        None => Ok(()),
-    }
+    cleared(alloc, first_of(names_check(scope, items, stmt), calls))
+}
+
+/// Looks at all names of a select.
+pub fn check_all_names<'a>(
+    alloc: Global,
+    scope: &Scope,
+    items: &[Shown<'a>],
+    stmt: &'a SelectStmt,
+) -> Result<(), EvalError>
+    ensures { Clears (spec.names_check scope.now (map shown items.now) stmt.now) result }
+{
+    cleared(alloc, names_check(scope, items, stmt))
+}
+
+/// Looks at the names in an expression.
+pub fn check_names(alloc: Global, scope: &Scope, expr: &Expr) -> Result<(), EvalError>
+    ensures { Clears (spec.names_in scope.now expr.now) result }
+{
+    cleared(alloc, names_in(scope, expr))
+}
+
+/// Looks at the calls in an expression that is over one row.
+pub fn check_calls(alloc: Global, expr: &Expr) -> Result<(), EvalError>
+    ensures { Clears (spec.calls_in allowed.Columns expr.now) result }
+{
+    cleared(alloc, calls_in(Allowed::Columns, expr))
 }

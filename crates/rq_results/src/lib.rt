@@ -9,7 +9,9 @@ mod heading_texts;
 mod pushing;
 mod results;
 
-pub use checking::{Allowed, aliased, check, is_over_all};
+pub use checking::{
+    Allowed, aliased, check, check_all_names, check_calls, check_names, is_over_all,
+};
 pub use heading_texts::{headings, types};
 pub use pushing::push;
 pub use results::{Shown, spread};

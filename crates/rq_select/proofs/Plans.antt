@@ -60,7 +60,7 @@ results_are law sc g all (w ∷ ws) = ap (λ (f : Gives). f ∷ map (s.shown_val
 
 -- ---- WHERE
 
-filter_is : FoundOnce → (sc : Scope) (f : Option Expr) → s.meets sc f ≡ p.passes (option_map (λ e. resolved sc e false) f)
+pub filter_is : FoundOnce → (sc : Scope) (f : Option Expr) → s.meets sc f ≡ p.passes (option_map (λ e. resolved sc e false) f)
 filter_is law sc None = refl
 filter_is law sc (Some e) = fun_ext (λ r. ap s.judged (sym (law [] sc e false r)))
 

@@ -4,3 +4,4 @@ pub mod Select
 pub mod Planned
 pub mod Keys
 pub mod Stopping
+pub mod Parts

@@ -7,6 +7,7 @@
 mod filtering;
 mod keys;
 mod laws;
+mod parts;
 mod planning;
 mod selecting;
 mod showing;
@@ -16,6 +17,7 @@ mod table;
 mod terms;
 
 pub use laws::one_select;
+pub use parts::{result_count, result_rows, rowids_where};
 pub use selecting::select;
 pub use sorting::{SortKey, SortTerm};
 pub use table::{Lookup, TableView};

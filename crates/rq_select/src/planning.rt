@@ -77,7 +77,7 @@ fn planned_results(
     Ok(results)
 }
 
-fn planned_filter(
+pub fn planned_filter(
     alloc: Global,
     scope: &Scope,
     filter: &Option<Expr>,

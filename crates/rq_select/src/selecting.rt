@@ -9,7 +9,7 @@ ghost use Rattle.rq_select.specs.Planned as planned;
 ghost use Rattle.rq_select.specs.Select as spec;
 ghost use Rattle.rq_select.specs.Stopping.{IsEnough};
 ghost use Rattle.rq_results.specs.Table.{scope_of, rows_of};
-ghost use Rattle.rq_results.specs.Viewed.{shown};
+ghost use Rattle.rq_results.specs.Viewed.{shown, IsSaid};
 
 use crate::keys::rows_for;
 use crate::planning::{Plan, plan_of};
@@ -70,12 +70,13 @@ fn rows_selected(
     }
 }
 
-fn answered_from_nothing(
+/// What a select without FROM shows.
+pub fn rows_of_nothing(
     alloc: Global,
     items: &[Shown<'_>],
     stmt: &SelectStmt,
-) -> Result<Res, EvalError>
-    ensures { Answers (spec.answered_by stmt.now no_source (map shown items.now)) result }
+) -> Result<Seq<Seq<Value>>, EvalError>
+    ensures { Answers (spec.rows_selected stmt.now no_source.scope no_source.rows (map shown items.now)) result }
 {
     let scope = Scope::Empty;
     let no_row = RowView {
@@ -83,8 +84,18 @@ fn answered_from_nothing(
         rowid: 0,
         values: &[],
     };
-    match rows_selected(alloc, &scope, items, stmt, &[no_row]) {
-        Ok(values) => with_headings(alloc, &scope, &[], items, values),
+    rows_selected(alloc, &scope, items, stmt, &[no_row])
+}
+
+fn answered_from_nothing(
+    alloc: Global,
+    items: &[Shown<'_>],
+    stmt: &SelectStmt,
+) -> Result<Res, EvalError>
+    ensures { Answers (spec.answered_by stmt.now no_source (map shown items.now)) result }
+{
+    match rows_of_nothing(alloc, items, stmt) {
+        Ok(values) => with_headings(alloc, &Scope::Empty, &[], items, values),
         Err(e) => Err(e),
     }
 }
@@ -143,7 +154,8 @@ fn shown_of_table<T: TableView>(
     }
 }
 
-fn rows_of_table<T: TableView>(
+/// What a select from a table shows.
+pub fn rows_of_table<T: TableView>(
     alloc: Global,
     items: &[Shown<'_>],
     stmt: &SelectStmt,
@@ -185,12 +197,13 @@ fn selected_from_table<T: TableView>(
     }
 }
 
-fn no_table(alloc: Global, name: &Text) -> Result<Res, EvalError>
-    ensures { Answers (Err (no_such_table name.now)) result }
+/// FROM names no table.
+pub fn no_table(alloc: Global, name: &Text) -> EvalError
+    ensures { IsSaid (no_such_table name.now) result }
 {
     match name.copy(alloc) {
-        Ok(name) => Err(EvalError::Says(StmtError::NoTable(name))),
-        Err(_) => Err(EvalError::NoMemory),
+        Ok(name) => EvalError::Says(StmtError::NoTable(name)),
+        Err(_) => EvalError::NoMemory,
     }
 }
 
@@ -205,7 +218,7 @@ pub fn select<T: TableView>(
     match &stmt.table {
         None => selected_from_nothing(alloc, stmt),
         Some(name) => match table {
-            None => no_table(alloc, name),
+            None => Err(no_table(alloc, name)),
             Some(table) => selected_from_table(alloc, stmt, table),
         },
     }
