@@ -12,7 +12,7 @@ use Rattle.rq_grammar.specs.declared.stmt.ColumnDef.{ColumnDef}
 use Rattle.rq_rows.specs.Rows.{Filled, has, is_same, is_rowid, is_unique, key_of, is_taken}
 use Rattle.rq_rows.specs.Holding.{held, same}
 use Rattle.rq_rows.specs.Slots.{Slot}
-use Rattle.rq_rows.specs.Covering.{Held, Cover, Covers, Apart, Keyed, Valid, Free, HasKey, HasHolders, MoreHeld, More, is_new, Points, PointsBelow}
+use Rattle.rq_rows.specs.Covering.{Held, Cover, Covers, Counted, Apart, Keyed, Valid, Free, HasKey, HasHolders, MoreHeld, More, is_new, Points, PointsBelow}
 use Rattle.rq_rows.proofs.Keys.{is_compared, exact, compared_itself}
 use Rattle.rq_rows.proofs.Live.{get_put, same_key}
 use Rattle.rq_rows.proofs.Walks.{found_any}
@@ -116,8 +116,15 @@ pub covers_out : (cs : List ColumnDef) (hs : List Held) (rows : Filled) (k : ℤ
 covers_out cs hs rows k old n c h at_c at_h must j r v e f = old n c h at_c at_h must j r v (found_still rows k j r e) f
 
 pub valid_in : (cs : List ColumnDef) (rows : Filled) (k : ℤ) (row : List Value) → Valid cs rows → Free cs rows row → HasKey cs k row → Valid cs (fin.insert rows k row)
-valid_in cs rows k row old free key = record { apart = apart; keyed = keyed }
+valid_in cs rows k row old free key = record { counted = counted; apart = apart; keyed = keyed }
   where
+    counted : Counted (length cs) (fin.insert rows k row)
+    counted j r e = by (found_at rows k row j r e)
+      where
+        by : ((j ≡ k) × (r ≡ row)) ⊎ (fin.get rows j ≡ Some r) → length r ≡ length cs
+        by (inl p) = ap length p.1 ∙ key.count
+        by (inr q) = old.counted j r q
+
     apart : (n : ℕ) (c : ColumnDef) → slice_get cs n ≡ Some c → is_unique c ≡ true → Apart n (fin.insert rows k row)
     apart n c at_c must i j r s v e f a b = by (found_at rows k row i r e) (found_at rows k row j s f)
       where
@@ -131,11 +138,12 @@ valid_in cs rows k row old free key = record { apart = apart; keyed = keyed }
     keyed n c at_c t j r e = by (found_at rows k row j r e)
       where
         by : ((j ≡ k) × (r ≡ row)) ⊎ (fin.get rows j ≡ Some r) → slice_get r n ≡ Some (Int j)
-        by (inl p) = ap (λ vs. slice_get vs n) p.1 ∙ key n c at_c t ∙ ap (λ z. Some (Int z)) (sym p.0)
+        by (inl p) = ap (λ vs. slice_get vs n) p.1 ∙ key.key n c at_c t ∙ ap (λ z. Some (Int z)) (sym p.0)
         by (inr q) = old.keyed n c at_c t j r q
 
 pub valid_out : (cs : List ColumnDef) (rows : Filled) (k : ℤ) → Valid cs rows → Valid cs (fin.remove rows k)
 valid_out cs rows k old = record {
+  counted = λ j r e. old.counted j r (found_still rows k j r e);
   apart = λ n c at_c must i j r s v e f. old.apart n c at_c must i j r s v (found_still rows k i r e) (found_still rows k j s f);
   keyed = λ n c at_c t j r e. old.keyed n c at_c t j r (found_still rows k j r e);
 }

@@ -51,6 +51,9 @@ finds n f rows v cover = at_key (held f v) refl
     at_key None e = none _ (λ h. let p = any_found (has n v) rows h in none_some p.0 (sym e ∙ cover p.0 p.1 v p.2 (key_is n v p.1 p.3)))
     at_key (Some k) e = at_slot k e (fin.get rows k) refl
 
+pub none_has : (n : ℕ) (v : Value) (rows : Filled) → Finds n v rows None → (j : ℤ) (r : List Value) → fin.get rows j ≡ Some r → has n v (j, r) ≡ false
+none_has n v rows f j r g = none _ (λ t. clash _ (found_any (has n v) rows j r g t) f)
+
 pub there_is : {A : Type 0} (xs : List A) (n : ℕ) → n < length xs → (x : A) × (slice_get xs n ≡ Some x)
 there_is [] n lt = absurd (omega arith)
 there_is (x ∷ xs) zero lt = (x, refl)

@@ -93,7 +93,7 @@ pub fresh : (cs : List ColumnDef) (hs : List Held) (es : List (ℤ × Slot)) (ls
 fresh cs hs es ls len e f = subst (λ xs. Sound cs hs (slots_of xs) ls) (sym e) (subst (λ xs. Sound cs hs (slots_of []) xs) (sym f) (record {
   matched = len;
   covers = λ n c h at_c at_h must k row v g t. nothing k row g;
-  valids = record { apart = λ n c at_c must j k r s v g h a b. nothing j r g; keyed = λ n c at_c t k row g. nothing k row g };
+  valids = record { counted = λ k row g. nothing k row g; apart = λ n c at_c must j k r s v g h a b. nothing j r g; keyed = λ n c at_c t k row g. nothing k row g };
   ready = tt;
 }))
 

@@ -27,8 +27,13 @@ Apart n rows = (j k : ℤ) (r s : List Value) (v : Value) → fin.get rows j ≡
 abbrev pub Keyed : ℕ → Filled → Type 0
 Keyed n rows = (k : ℤ) (row : List Value) → fin.get rows k ≡ Some row → slice_get row n ≡ Some (Int k)
 
--- UNIQUE columns differ, and the column that is the rowid has it
+-- each row has a value for each column
+abbrev pub Counted : ℕ → Filled → Type 0
+Counted n rows = (k : ℤ) (row : List Value) → fin.get rows k ≡ Some row → length row ≡ n
+
+-- each row has a value for each column, UNIQUE columns differ, and the column that is the rowid has it
 pub record Valid (cs : List ColumnDef) (rows : Filled) : Type 0 where
+  pub counted : Counted (length cs) rows
   pub apart : (n : ℕ) (c : ColumnDef) → slice_get cs n ≡ Some c → is_unique c ≡ true → Apart n rows
   pub keyed : (n : ℕ) (c : ColumnDef) → slice_get cs n ≡ Some c → is_rowid c ≡ true → Keyed n rows
 
@@ -36,9 +41,10 @@ pub record Valid (cs : List ColumnDef) (rows : Filled) : Type 0 where
 abbrev pub Free : List ColumnDef → Filled → List Value → Type 0
 Free cs rows row = (n : ℕ) (c : ColumnDef) → slice_get cs n ≡ Some c → is_unique c ≡ true → is_taken n rows (key_of n row) ≡ false
 
--- the row has its rowid in the rowid's column
-abbrev pub HasKey : List ColumnDef → ℤ → List Value → Type 0
-HasKey cs k row = (n : ℕ) (c : ColumnDef) → slice_get cs n ≡ Some c → is_rowid c ≡ true → slice_get row n ≡ Some (Int k)
+-- the row has a value for each column, and its rowid in the rowid's column
+pub record HasKey (cs : List ColumnDef) (k : ℤ) (row : List Value) : Type 0 where
+  pub count : length row ≡ length cs
+  pub key : (n : ℕ) (c : ColumnDef) → slice_get cs n ≡ Some c → is_rowid c ≡ true → slice_get row n ≡ Some (Int k)
 
 -- the maps have an entry for each value of a row
 abbrev pub HasHolders : List ColumnDef → List Held → Slot → Type 0

@@ -1,10 +1,10 @@
 //! The rows of a table.
 
-ghost use Rattle.std.specs.Prelude.{◌≡◌, ◌<◌, Some, None, OnOk, OnErr, true, length, slice_get, IfOk, vec_len};
+ghost use Rattle.std.specs.Prelude.{◌≡◌, ◌<◌, Some, None, OnOk, OnErr, true, false, length, slice_get, IfOk, vec_len};
 ghost use Rattle.std.specs.Option.{option_copied};
 ghost use Rattle.std.specs.FinMap as fin;
 ghost use Rattle.rq_rows.specs.Rows as spec;
-ghost use Rattle.rq_rows.specs.Covering.{Free, HasKey, Cover, Finds, probe};
+ghost use Rattle.rq_rows.specs.Covering.{Free, HasKey, Cover, Valid, Finds, probe};
 ghost use Rattle.rq_rows.specs.Holding.{held};
 ghost use Rattle.rq_rows.specs.Slots.{shown, joined};
 
@@ -95,6 +95,13 @@ impl TableRows {
         // Only a walk says that the slots are in order.
         let _walk = self.slots.iter();
         &self.slots
+    }
+
+    /// Each row has a value for each column, no two have one in a UNIQUE column, and the column that is the rowid has it. This changes nothing.
+    pub fn know_valid(&self)
+        ensures { Valid self.now.columns self.now.now }
+    {
+        let _columns = self.columns.as_slice();
     }
 
     /// The row of a rowid.
@@ -245,7 +252,8 @@ impl TableRows {
     pub fn find(&self, at: usize, value: &Value) -> Option<i64>
         requires within { at < length self.now.columns }
         requires unique { (c : _) → slice_get self.now.columns at ≡ Some c → spec.is_unique c ≡ true }
-        ensures { Finds at value.now self.now.now result }
+        ensures finds { Finds at value.now self.now.now result }
+        ensures none { result ≡ None → (j : _) (r : _) → fin.get self.now.now j ≡ Some r → spec.has at value.now (j, r) ≡ false }
     {
         self.probe(at, value, self.holder_at(at, value))
     }
