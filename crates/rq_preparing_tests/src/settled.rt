@@ -1,6 +1,6 @@
 //! Random words and moments in statements.
 use crate::preparing::{Asked, is_prepared, is_prepared_with};
-use rq_outside::SureDraws;
+use rq_outside::{ScriptDraws, SureDraws};
 use rq_request::Params;
 use std::alloc::Global;
 use std::test::Fail;
@@ -265,5 +265,28 @@ fn canonical_text_has_a_limit(rt: HostRuntime) -> Result<(), Fail> {
     let is = is_large(alloc, text.as_str(), "statement too large: 4210708");
     drop(text);
     assert!(rt; is?);
+    Ok(())
+}
+
+/// Whether the text is prepared as what is shown so, where the second draw fails.
+fn is_failed(alloc: Global, text: &str, wanted: &str) -> Result<bool, Fail> {
+    let words = Vec::from_slice(alloc, &[2, 5, 8])?;
+    let fails = Vec::from_slice(alloc, &[2])?;
+    let mut draws = ScriptDraws::new(words, fails);
+    let asked = Asked {
+        text,
+        words: &[],
+        moment: 0,
+    };
+    let is = is_prepared_with(alloc, &asked, &Params::None, &mut draws, wanted);
+    drop(draws);
+    Ok(is)
+}
+
+#[test]
+fn a_fault_of_the_draws_is_told(rt: HostRuntime) -> Result<(), Fail> {
+    let alloc = rt.alloc();
+    assert!(rt; is_failed(alloc, "SELECT random()", "SELECT 1")?);
+    assert!(rt; is_failed(alloc, "SELECT random(), random()", "random words")?);
     Ok(())
 }
