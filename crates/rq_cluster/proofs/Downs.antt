@@ -1,5 +1,5 @@
 -- Turns that take the node of a server down.
-use Rattle.std.proofs.Common.{◌≡◌, ◌⊎◌, inl, inr, ◌≤◌, ◌<◌, ◌+◌, ◌-◌, ◌*◌, ◌^◌, ℕ, Bool, IsTrue, List, [], ◌∷◌, ◌++◌, length, take, Option, Some, None, Result, Ok, Err, nat_le, false, refl, sym, ◌∙◌, ap, subst, arith}
+use Rattle.std.proofs.Common.{◌≡◌, ◌⊎◌, inl, inr, ◌≤◌, ◌<◌, ◌+◌, ◌-◌, ◌*◌, ◌^◌, ℕ, Bool, true, IsTrue, List, [], ◌∷◌, ◌++◌, length, take, Option, Some, None, Result, Ok, Err, nat_le, false, refl, sym, ◌∙◌, ap, subst, arith}
 use Rattle.std.specs.Prelude.{All, OnOk}
 use Rattle.std.proofs.lemmas.Bool.Decides.{nat_tests}
 use Rattle.std.proofs.lemmas.List.Elements.{All-append, All-take, All-head, All-tail, All-nil}
@@ -9,9 +9,9 @@ use Rattle.rq_outside.specs.declared.pair.Arm.TheVariants.{Off, Passes, Struck}
 use Rattle.rq_outside.specs.declared.pair.FileNo.TheVariants.{One, Two}
 use Rattle.rq_outside.specs.Disk.{DiskMeaning}
 use Rattle.rq_outside.specs.Pair.{arm_of, disk_at}
-use Rattle.rq_wal.specs.Calls.{IsShort}
 use Rattle.rq_wal.specs.Reading.{pair_gives}
-use Rattle.rq_wal.specs.Later.{DeviceRose}
+use Rattle.rq_wal.specs.Spends.{ArmAfter, DeviceRose, Cause, Spends}
+use Rattle.rq_wal.proofs.Spending.{struck_short}
 use Rattle.rq_node.specs.declared.node.Node.{Node as RunningNode}
 use Rattle.rq_node.specs.declared.log_entry.LogEntry.{LogEntry}
 use Rattle.rq_node.specs.declared.event.Event.{Event}
@@ -28,7 +28,7 @@ use Rattle.rq_cluster.specs.declared.arming.Arming.{Arming}
 use Rattle.rq_cluster.specs.declared.host.Host.{Host}
 use Rattle.rq_cluster.specs.Refines.{RefinesServer, RefinesStand, IsArmed, LetsPass, Goes, armed_of}
 use Rattle.rq_cluster.specs.Recovery.{Rises, StandsAs, ServerStands}
-use Rattle.rq_cluster.proofs.Pairs.{LogsStand, open_stands, SameDisks, NoFewer, fewer_same, rises_on, rises_more, stands_same}
+use Rattle.rq_cluster.proofs.Pairs.{LogsStand, open_stands, SameDisks, NoFewer, fewer_same, fewer_spent, rises_on, rises_more, stands_same}
 use Rattle.rq_cluster.proofs.Results.{on_ok_map}
 use Rattle.rq_cluster.proofs.Turns.{node_shown, lets_some, failing, striking, turn_failed, turn_struck}
 
@@ -136,13 +136,21 @@ module _ {D F : Type 0} (told : Bool) (means : D → DiskMeaning) where
 
   module _ (start old : DiskPair D F) (from : Host) (s : Server) (refines : RefinesServer told means start old from s)
       (mid broke new : DiskPair D F) (node : RunningNode) (rule : Node → Turn) (asked : List ℕ)
-      (same : SameDisks old mid) (lets : LetsPass told means mid s.armed) (later : NoFewer told means mid broke)
+      (same : SameDisks old mid) (lets : LetsPass told means mid s.armed) (spent : Spends means (4 * length (rule node.state).records) true mid broke)
       (runs : from.node ≡ Some node) (small : length (rule node.state).records ≤ 2)
-      (broken : IsBroken told means mid broke node.state.id (persistent_of node.state) (rule node.state).records)
+      (broken : IsBroken told means broke node.state.id (persistent_of node.state) (rule node.state).records)
       (readable : CanBeRead (persistent_of node.state) (rule node.state).records)
       (crashed : HasStruck (arm_of broke) from.armed → Crashed told means broke new) (untouched : (HasStruck (arm_of broke) from.armed → ⊥) → new ≡ broke) where
     was : Rises told means s.failures start mid
     was = rises_on told means s.failures start old mid refines.rises (fewer_same told means old mid same)
+
+    later : NoFewer told means mid broke
+    later = fewer_spent told means (4 * length (rule node.state).records) true mid broke spent
+
+    -- a pair that is stopped let too few calls pass
+    short : (calls : ℕ) → arm_of mid ≡ Passes calls → arm_of broke ≡ Struck → calls < 4 * length (rule node.state).records
+    short calls passing stopped =
+        struck_short (4 * length (rule node.state).records) calls (arm_of broke) (subst (λ (m : Arm). ArmAfter (4 * length (rule node.state).records) true m (arm_of broke)) passing spent.arm) stopped
 
     -- a disk has failed
     has_failed : (HasStruck (arm_of broke) from.armed → ⊥) → (arm_of broke ≡ Struck → ⊥) → DeviceRose means mid broke
@@ -179,8 +187,7 @@ module _ {D F : Type 0} (told : Bool) (means : D → DiskMeaning) where
         let n = refined.n in
         let turn : rule node.state ≡ rule n = ap rule refined.state in
         let crash = crashed struck in
-        let short : a.calls < 4 * length (rule node.state).records = subst (λ (m : Arm). IsShort (4 * length (rule node.state).records) m) (lets_some told means mid s.armed lets a is) (broken.struck stopped) in
-        let short_n : a.calls < needed (rule n).records = subst (λ (t : Turn). a.calls < 4 * length t.records) turn short in
+        let short_n : a.calls < needed (rule n).records = subst (λ (t : Turn). a.calls < 4 * length t.records) turn (short a.calls (lets_some told means mid s.armed lets a is) stopped) in
         let not_le : nat_le (needed (rule n).records) a.calls ≡ false = grind (arith, nat_tests, short_n) in
         let blocked : passes s.armed (needed (rule n).records) ≡ false = ap (λ (o : Option Armed). passes o (needed (rule n).records)) is ∙ not_le in
         let stood = subst (λ (i : List ℕ). Stands told means broke i (persistent_of n) (rule n).records) refined.named
@@ -214,16 +221,15 @@ module _ {D F : Type 0} (told : Bool) (means : D → DiskMeaning) where
 
     no_line : s.armed ≡ None → arm_of broke ≡ Struck → ⊥
     no_line none struck =
-        let passing : arm_of mid ≡ Passes (2 ^ 64 - 1) = subst (λ (o : Option Armed). LetsPass told means mid o) none lets in
-        let short : 2 ^ 64 - 1 < 4 * length (rule node.state).records = subst (λ (m : Arm). IsShort (4 * length (rule node.state).records) m) passing (broken.struck struck) in
-        omega (arith, short, small)
+        let less : 2 ^ 64 - 1 < 4 * length (rule node.state).records = short (2 ^ 64 - 1) (subst (λ (o : Option Armed). LetsPass told means mid o) none lets) struck in
+        omega (arith, less, small)
 
     device_of : (arm_of broke ≡ Struck → ⊥) → DeviceRose means mid broke
-    device_of unstruck = by broken.cause
+    device_of unstruck = by spent.cause
       where
-        by : DeviceRose means mid broke ⊎ (arm_of broke ≡ Struck) → DeviceRose means mid broke
+        by : Cause means true mid broke → DeviceRose means mid broke
         by (inl device) = device
-        by (inr struck) = absurd (unstruck struck)
+        by (inr own) = absurd (unstruck own.1)
 
     pub fell : Fell
     fell = by from.armed refl (arm_of broke) refl

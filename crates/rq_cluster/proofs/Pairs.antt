@@ -12,7 +12,7 @@ use Rattle.rq_wal.specs.declared.error.OpenError.{OpenError}
 use Rattle.rq_wal.specs.declared.file.WalFile.{WalFile}
 use Rattle.rq_wal.specs.Current.{EachImage, IsCurrent}
 use Rattle.rq_wal.specs.Gate.{IsAtRest}
-use Rattle.rq_wal.specs.Later.{Later, DeviceRose}
+use Rattle.rq_wal.specs.Spends.{Spends, DeviceRose}
 use Rattle.rq_wal.specs.Log.{IsLog}
 use Rattle.rq_wal.specs.WalFile.{wal_file, wal_end, wal_generation}
 use Rattle.rq_node.specs.declared.node.Node.{Node as RunningNode}
@@ -77,8 +77,8 @@ module _ {D F : Type 0} (told : Bool) (means : D → DiskMeaning) where
     pub one : (means (disk_at old One)).faults ≤ (means (disk_at new One)).faults
     pub two : (means (disk_at old Two)).faults ≤ (means (disk_at new Two)).faults
 
-  pub fewer_later : (old new : DiskPair D F) → Later means old new → NoFewer old new
-  fewer_later old new later = record { one = later.one; two = later.two }
+  pub fewer_spent : (most : ℕ) (failed : Bool) (old new : DiskPair D F) → Spends means most failed old new → NoFewer old new
+  fewer_spent most failed old new spent = record { one = spent.one; two = spent.two }
 
   pub fewer_same : (old new : DiskPair D F) → SameDisks old new → NoFewer old new
   fewer_same old new (one, two) =

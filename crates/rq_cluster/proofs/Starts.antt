@@ -1,5 +1,5 @@
 -- Nodes that start, stop and are armed.
-use Rattle.std.proofs.Common.{◌≡◌, ◌⊎◌, inl, inr, ◌≤◌, ◌+◌, ◌-◌, ◌^◌, ℕ, zero, suc, Bool, List, [], ◌∷◌, ◌++◌, take, Option, Some, None, refl, sym, ◌∙◌, ap, subst, arith}
+use Rattle.std.proofs.Common.{◌≡◌, ◌⊎◌, inl, inr, ◌≤◌, ◌+◌, ◌-◌, ◌^◌, ℕ, zero, suc, Bool, true, false, List, [], ◌∷◌, ◌++◌, take, Option, Some, None, refl, sym, ◌∙◌, ap, subst, arith}
 use Rattle.std.specs.Prelude.{All}
 use Rattle.std.proofs.lemmas.List.{append-nil}
 use Rattle.std.proofs.lemmas.List.Elements.{All-take, All-cons, All-nil}
@@ -8,8 +8,8 @@ use Rattle.rq_outside.specs.declared.pair.Arm.{Arm}
 use Rattle.rq_outside.specs.declared.pair.Arm.TheVariants.{Off, Passes, Struck}
 use Rattle.rq_outside.specs.Disk.{DiskMeaning}
 use Rattle.rq_outside.specs.Pair.{arm_of}
-use Rattle.rq_wal.specs.Calls.{PassesMost}
-use Rattle.rq_wal.specs.Later.{DeviceRose}
+use Rattle.rq_wal.specs.Spends.{ArmAfter, DeviceRose, Cause, SpendsMost}
+use Rattle.rq_wal.proofs.Spending.{struck_short}
 use Rattle.rq_node.specs.declared.node.Node.{Node as RunningNode}
 use Rattle.rq_node.specs.declared.error.NodeError.{NodeError}
 use Rattle.rq_node.specs.declared.error.NodeError.TheVariants as errors
@@ -24,13 +24,18 @@ use Rattle.rq_cluster.specs.declared.arming.Arming.{Arming}
 use Rattle.rq_cluster.specs.declared.host.Host.{Host}
 use Rattle.rq_cluster.specs.Refines.{RefinesServer, RefinesStand, IsArmed, LetsPass, armed_of}
 use Rattle.rq_cluster.specs.Recovery.{Rises, StandsAs, ServerStands}
-use Rattle.rq_cluster.proofs.Pairs.{LogsStand, open_stands, SameDisks, NoFewer, fewer_same, rises_on, rises_more, stands_same}
+use Rattle.rq_cluster.proofs.Pairs.{LogsStand, open_stands, SameDisks, NoFewer, fewer_same, fewer_spent, rises_on, rises_more, stands_same}
 use Rattle.rq_cluster.proofs.Turns.{IsDown, node_shown, down_shown}
 use Rattle.rq_cluster.proofs.Downs.{GoesDown, down_breaks, readable_after, settled, fewer_crashed}
 
 take_none : (k : ℕ) → take {A = StoredRecord} k [] ≡ []
 take_none zero = refl
 take_none (suc k) = refl
+
+-- a pair that passes all calls isn't stopped by an opening
+not_stopped : (new : Arm) (k : ℕ) (failed : Bool) → k ≤ 14 → ArmAfter k failed (Passes (2 ^ 64 - 1)) new → new ≡ Struck → ⊥
+not_stopped new k true few after struck = let less = struck_short k (2 ^ 64 - 1) new after struck in omega (arith, less, few)
+not_stopped new k false few after struck = let e : Passes (2 ^ 64 - 1 - k) ≡ Struck = sym after.1 ∙ struck in absurd (cc)
 
 module _ {D F : Type 0} (told : Bool) (means : D → DiskMeaning) where
   -- what a host refines stands in its pair
@@ -57,15 +62,8 @@ module _ {D F : Type 0} (told : Bool) (means : D → DiskMeaning) where
 
   -- ---- starting
 
-  -- a pair that passes all calls isn't stopped by an opening
-  pub not_stopped : (mid new : DiskPair D F) (k : ℕ) → k ≤ 100 → arm_of mid ≡ Passes (2 ^ 64 - 1) → PassesMost k (arm_of mid) (arm_of new) → arm_of new ≡ Struck → ⊥
-  not_stopped mid new k small passing most struck =
-      let p : k ≤ 2 ^ 64 - 1 → (m : ℕ) × (arm_of new ≡ Passes m) × (2 ^ 64 - 1 ≤ m + k) = subst (λ (a : Arm). PassesMost k a (arm_of new)) passing most in
-      let q = p (omega (arith, small)) in
-      let e : Passes q.0 ≡ Struck = sym q.1 ∙ struck in absurd (cc)
-
   module _ (start old : DiskPair D F) (from : Host) (s : Server) (refines : RefinesServer told means start old from s) (down : from.node ≡ None)
-      (mid new : DiskPair D F) (same : SameDisks old mid) (lets : LetsPass told means mid s.armed) (later : NoFewer told means mid new) (most : PassesMost 14 (arm_of mid) (arm_of new)) where
+      (mid new : DiskPair D F) (same : SameDisks old mid) (lets : LetsPass told means mid s.armed) (failed : Bool) (spent : SpendsMost means 14 failed mid new) where
     pub is_down : IsDown told means start old from s refines
     is_down = down_shown told means start old from s refines down
 
@@ -73,7 +71,10 @@ module _ {D F : Type 0} (told : Bool) (means : D → DiskMeaning) where
     unarmed = refines.spent down
 
     free : arm_of new ≡ Struck → ⊥
-    free = not_stopped mid new 14 (omega arith) (subst (λ (o : Option Armed). LetsPass told means mid o) unarmed lets) most
+    free = not_stopped (arm_of new) spent.count failed spent.few (subst (λ (m : Arm). ArmAfter spent.count failed m (arm_of new)) (subst (λ (o : Option Armed). LetsPass told means mid o) unarmed lets) spent.spends.arm)
+
+    later : NoFewer told means mid new
+    later = fewer_spent told means spent.count failed mid new spent.spends
 
     pub stood : Stands told means mid s.id is_down.kept is_down.rest
     stood = stands_same told means old mid s.id is_down.kept is_down.rest same is_down.stands
@@ -114,12 +115,15 @@ module _ {D F : Type 0} (told : Bool) (means : D → DiskMeaning) where
         (course, so.0, so.1)
 
     -- a disk has failed
-    pub starts_down : DeviceRose means mid new ⊎ (arm_of new ≡ Struck) → FailedOpening told means new s.id is_down.kept is_down.rest → GoesDown told means start new start_act s [] (s.failures + 1)
-    starts_down cause failed = by failed
+    pub starts_down : failed ≡ true → FailedOpening told means new s.id is_down.kept is_down.rest → GoesDown told means start new start_act s [] (s.failures + 1)
+    starts_down so left = by left
       where
-        device : DeviceRose means mid new ⊎ (arm_of new ≡ Struck) → DeviceRose means mid new
+        device : Cause means true mid new → DeviceRose means mid new
         device (inl rose) = rose
-        device (inr struck) = absurd (free struck)
+        device (inr own) = absurd (free own.1)
+
+        cause : Cause means true mid new
+        cause = subst (λ (b : Bool). Cause means b mid new) so spent.spends.cause
 
         by : FailedOpening told means new s.id is_down.kept is_down.rest → GoesDown told means start new start_act s [] (s.failures + 1)
         by (inl stands) =
@@ -169,11 +173,11 @@ module _ {D F : Type 0} (told : Bool) (means : D → DiskMeaning) where
     starts_not act stands = (s, inl refl, (subst (λ (st : Stand). StandsAs told means new s.id st) (sym is_down.stand) stands, rises_on told means s.failures start mid new was later))
 
     -- any other refusal
-    pub starts_refused : (e : NodeError) → (e ≡ errors.Disk → DeviceRose means mid new ⊎ (arm_of new ≡ Struck)) → (e ≡ errors.Disk → FailedOpening told means new s.id is_down.kept is_down.rest)
+    pub starts_refused : (e : NodeError) → (e ≡ errors.Disk → failed ≡ true) → (e ≡ errors.Disk → FailedOpening told means new s.id is_down.kept is_down.rest)
         → (e ≡ errors.Disk) ⊎ (Stands told means new from.id is_down.kept is_down.rest × ((e ≡ errors.NoMemory) ⊎ ((boot : ℕ) × (e ≡ errors.Ended boot))))
         → (reached : Server) × ((reached ≡ s) ⊎ ((course : Course) × (reached ≡ (start_act course s).0))) × ServerStands told means start new (Some reached)
-    starts_refused e cause failed (inl disk) = down_breaks told means start new start_act s [] (s.failures + 1) (starts_down (cause disk) (failed disk))
-    starts_refused e cause failed (inr (stands, free_answer)) = starts_not start_act (subst (λ (i : List ℕ). Stands told means new i is_down.kept is_down.rest) (sym refines.id) stands)
+    starts_refused e so left (inl disk) = down_breaks told means start new start_act s [] (s.failures + 1) (starts_down (so disk) (left disk))
+    starts_refused e so left (inr (stands, free_answer)) = starts_not start_act (subst (λ (i : List ℕ). Stands told means new i is_down.kept is_down.rest) (sym refines.id) stands)
 
   -- ---- stopping at once
 

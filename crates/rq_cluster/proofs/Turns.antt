@@ -8,6 +8,7 @@ use Rattle.rq_outside.specs.declared.pair.Arm.{Arm}
 use Rattle.rq_outside.specs.declared.pair.Arm.TheVariants.{Passes, Struck}
 use Rattle.rq_outside.specs.Disk.{DiskMeaning}
 use Rattle.rq_outside.specs.Pair.{arm_of, UsedCalls}
+use Rattle.rq_wal.specs.Spends.{Spends}
 use Rattle.rq_node.specs.declared.node.Node.{Node as RunningNode}
 use Rattle.rq_node.specs.Node.{Node, Persistent, StoredRecord, Turn, persistent_of, persistent_after}
 use Rattle.rq_node.specs.Recovery.{IsOpen, Stands, CanBeRead}
@@ -17,7 +18,7 @@ use Rattle.rq_cluster.specs.Acting.{event}
 use Rattle.rq_cluster.specs.declared.arming.Arming.{Arming}
 use Rattle.rq_cluster.specs.declared.host.Host.{Host}
 use Rattle.rq_cluster.specs.Refines.{RefinesServer, RefinesStand, IsArmed, LetsPass, armed_of}
-use Rattle.rq_cluster.proofs.Pairs.{SameDisks, NoFewer, fewer_same, rises_on, stands_same}
+use Rattle.rq_cluster.proofs.Pairs.{fewer_spent, SameDisks, NoFewer, fewer_same, rises_on, stands_same}
 
 -- ---- what a turn makes of a server
 
@@ -122,18 +123,18 @@ module _ {D F : Type 0} (told : Bool) (means : D → DiskMeaning) where
 
     -- the turn was done
     module _ (mid new : DiskPair D F) (to : Host) (node after : RunningNode) (rule : Node → Turn) (asked : List ℕ) (count : ℕ) (before text : List ℕ)
-        (same : SameDisks old mid) (lets : LetsPass told means mid s.armed) (later : NoFewer told means old new)
+        (same : SameDisks old mid) (lets : LetsPass told means mid s.armed) (spent : Spends means (4 * length (rule node.state).records) false mid new)
         (runs : from.node ≡ Some node) (id : to.id ≡ from.id) (lost : to.lost ≡ from.lost) (failures : to.failures ≡ from.failures)
         (armed : armed_of to.armed ≡ left_after (armed_of from.armed) (4 * count)) (runs_on : to.node ≡ Some after)
         (state : after.state ≡ (rule node.state).node) (count_is : count ≡ length (rule node.state).records) (named : (rule node.state).node.id ≡ node.state.id)
-        (opened : IsOpen told means new after) (calls : UsedCalls (4 * count) (arm_of mid) (arm_of new)) (text_is : text ≡ before ++ answers_text (rule node.state).answers) where
+        (opened : IsOpen told means new after) (text_is : text ≡ before ++ answers_text (rule node.state).answers) where
       pub turn_goes : (course : Course) × RefinesServer told means start new to (event rule asked course s).0 × (text ≡ before ++ (event rule asked course s).1)
       turn_goes =
           let refined = node_shown node runs in
           let n = refined.n in
           let turn : rule node.state ≡ rule n = ap rule refined.state in
           let k : 4 * count ≡ needed (rule n).records = ap (λ (c : ℕ). 4 * c) (count_is ∙ ap (λ (t : Turn). length t.records) turn) in
-          let used : UsedCalls (needed (rule n).records) (arm_of mid) (arm_of new) = subst (λ (c : ℕ). UsedCalls c (arm_of mid) (arm_of new)) k calls in
+          let used : UsedCalls (needed (rule n).records) (arm_of mid) (arm_of new) = subst (λ (t : Turn). UsedCalls (4 * length t.records) (arm_of mid) (arm_of new)) turn spent.arm in
           let done = turn_done s n rule asked refined.stand (lets_passes mid new s.armed (needed (rule n).records) lets used) in
           let next : Server = record s { stand = Running (rule n).node; armed = left_after s.armed (needed (rule n).records) } in
           let is_armed : left_after s.armed (needed (rule n).records) ≡ armed_of to.armed =
@@ -148,7 +149,7 @@ module _ {D F : Type 0} (told : Bool) (means : D → DiskMeaning) where
             failures = refines.failures ∙ sym failures;
             armed = is_armed;
             arm = arm_left mid new s.armed (needed (rule n).records) lets used;
-            rises = rises_on told means s.failures start old new refines.rises later;
+            rises = rises_on told means s.failures start mid new (rises_on told means s.failures start old mid refines.rises (fewer_same told means old mid same)) (fewer_spent told means (4 * length (rule node.state).records) false mid new spent);
             stand = there;
             spent = λ none. (let e = sym runs_on ∙ none in absurd (cc));
           } in

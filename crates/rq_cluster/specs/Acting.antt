@@ -7,11 +7,11 @@ use Rattle.rq_outside.specs.declared.pair.FileNo.{FileNo}
 use Rattle.rq_outside.specs.Disk.{DiskMeaning, Only}
 use Rattle.rq_outside.specs.Pair.{arm_of, disk_at}
 use Rattle.rq_node.specs.declared.node.Node.{Node as RunningNode}
-use Rattle.rq_node.specs.Node.{Node, Turn, persistent_of}
+use Rattle.rq_node.specs.Node.{Node, Turn}
 use Rattle.rq_node.specs.declared.event.Event.{Event}
 use Rattle.rq_node.specs.Events.{rule, asked}
-use Rattle.rq_script.specs.Cluster.{Stand, Running, Down, Server, Course, happens_at, opens, gone_down, numbers}
-use Rattle.rq_script.specs.ScriptText.{down_text, show_text, show_down_text}
+use Rattle.rq_script.specs.Cluster.{Server, Course, happens_at, starts, stops, numbers}
+use Rattle.rq_script.specs.ScriptText.{show_text, show_down_text}
 use Rattle.rq_cluster.specs.declared.arming.Arming.{Arming}
 use Rattle.rq_cluster.specs.declared.host.Host.{Host}
 
@@ -32,21 +32,18 @@ event by numbers course s = happens_at course s by numbers
 abbrev pub turn : Event → Act
 turn e = event (rule e) (asked_of (asked e))
 
+-- nothing happens where it can't be done
+abbrev pub or_nothing : Server → Option (Server × List ℕ) → Server × List ℕ
+or_nothing s None = (s, [])
+or_nothing s (Some t) = t
+
 -- the node of a server that is down starts
 abbrev pub start : Act
-start course s = at s.stand
-  where
-    at : Stand → Server × List ℕ
-    at (Running n) = (s, [])
-    at (Down kept rest) = opens course s kept rest
+start course s = or_nothing s (starts course s)
 
 -- a running node stops at once
 abbrev pub stop : Act
-stop course s = at s.stand
-  where
-    at : Stand → Server × List ℕ
-    at (Running n) = (gone_down s n (persistent_of n) [] [], down_text s.id)
-    at (Down kept rest) = (s, [])
+stop course s = or_nothing s (stops s)
 
 -- a running node goes down within an event to come
 abbrev pub arm : ℕ → ℕ → Act

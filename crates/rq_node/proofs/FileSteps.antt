@@ -1,59 +1,44 @@
 -- A pair whose file is written.
-use Rattle.std.proofs.Common.{◌≡◌, ◌⊎◌, inl, inr, ◌≤◌, ℕ, Bool, true, IsTrue, List, map, Option, Some, None, Ok, refl, sym, ◌∙◌, ap, subst, arith}
+use Rattle.std.proofs.Common.{◌≡◌, inr, ◌+◌, ◌*◌, ℕ, Bool, true, false, IsTrue, List, length, map, Option, Some, None, Result, Ok, Err, refl, sym, ◌∙◌, ap, subst, arith}
+use Rattle.std.proofs.lemmas.List.{length-map}
 use Rattle.std.specs.Prelude.{is_some}
 use Rattle.rq_outside.specs.declared.pair.DiskPair.{DiskPair}
-use Rattle.rq_outside.specs.declared.pair.Arm.{Arm}
-use Rattle.rq_outside.specs.declared.pair.Arm.TheVariants.{Off, Passes, Struck}
 use Rattle.rq_outside.specs.Disk.{DiskMeaning}
-use Rattle.rq_outside.specs.Counts.{Rose}
-use Rattle.rq_outside.specs.Pair.{arm_of, disk_at, PairRose}
+use Rattle.rq_outside.specs.Pair.{disk_at}
 use Rattle.rq_wal.specs.Gate.{IsAtRest}
 use Rattle.rq_wal.specs.WalFile.{wal_file, wal_end}
 use Rattle.rq_wal.specs.declared.base.Stored.{Stored}
 use Rattle.rq_wal.specs.declared.file.WalFile.{WalFile}
 use Rattle.rq_wire.specs.declared.frame.Frame.{Frame}
-use Rattle.rq_wal.specs.Calls.{PassesMost}
 use Rattle.rq_wal.specs.Current.{IsCurrent, IsSome, OnlyRoom, EachImage, EachImageGives, EachSinceGives, EachSinceGivesSome}
-use Rattle.rq_wal.specs.Later.{Later, DeviceRose}
+use Rattle.rq_wal.specs.Spelling.{piece_of}
+use Rattle.rq_wal.specs.Spends.{Spends}
+use Rattle.rq_wal.proofs.Spending.{spends_then}
 use Rattle.rq_wal.specs.Reading.{pair_gives}
 use Rattle.rq_wal.specs.Rules.{AreAllowed}
 use Rattle.rq_wal.specs.Stored.{applied_all}
 use Rattle.rq_node.specs.Files.{first_base, stored_of, frame_of}
 use Rattle.rq_node.specs.Node.{Persistent, StoredRecord, persistent_after}
-use Rattle.rq_node.specs.Recovery.{Stands, HasFile, Moments}
+use Rattle.rq_node.specs.declared.turn_error.TurnError.{TurnError}
+use Rattle.rq_node.specs.declared.turn_error.TurnError.TheVariants as failures
+use Rattle.rq_node.specs.Recovery.{SpentStoring, Stands, HasFile, Moments}
 use Rattle.rq_node.proofs.Persistent.{stored_after_kept, some_of}
 
-pub rose_later : (a b c : ℕ) → a ≤ b → Rose b c → Rose a c
-rose_later a b c le rose = omega (arith, rose)
+-- what these frames spend, behind the room that was made for them
+pub stored_spent : {D F : Type 0} (means : D → DiskMeaning) (failed : Bool) (a b c : DiskPair D F) (frames : List Frame) (batch : List (List ℕ)) → batch ≡ map piece_of frames
+    → Spends means 0 false a b → Spends means (4 * length batch) failed b c → Spends means (4 * length frames) failed a c
+stored_spent means failed a b c frames batch is room wrote =
+    let same : length batch ≡ length frames = ap length is ∙ length-map frames piece_of in
+    let all : 0 + 4 * length batch ≡ 4 * length frames = omega (arith, same) in
+    subst (λ (n : ℕ). Spends means n failed a c) all (spends_then means 0 (4 * length batch) failed a b c room wrote)
 
-pub rose_sooner : (a b c : ℕ) → b ≤ c → Rose a b → Rose a c
-rose_sooner a b c le rose = omega (arith, rose)
-
-pub none_made : (k : ℕ) (arm : Arm) → PassesMost k arm arm
-none_made k Off = refl
-none_made k (Passes n) = λ le. (n, refl, omega arith)
-none_made k Struck = refl
-
-module _ {D F : Type 0} (means : D → DiskMeaning) where
-  pub later_same : (pair : DiskPair D F) → Later means pair pair
-  later_same pair = record { one = omega arith; two = omega arith; own = omega arith }
-
-  pub later_both : (a b c : DiskPair D F) → Later means a b → Later means b c → Later means a c
-  later_both a b c first second = record {
-    one = omega (arith, first.one, second.one);
-    two = omega (arith, first.two, second.two);
-    own = omega (arith, first.own, second.own);
-  }
-
-  pub device_later : (a b c : DiskPair D F) → Later means a b → DeviceRose means b c ⊎ (arm_of c ≡ Struck) → DeviceRose means a c ⊎ (arm_of c ≡ Struck)
-  device_later a b c later (inl (inl one)) = inl (inl (rose_later (means a.one).faults (means b.one).faults (means c.one).faults later.one one))
-  device_later a b c later (inl (inr two)) = inl (inr (rose_later (means a.two).faults (means b.two).faults (means c.two).faults later.two two))
-  device_later a b c later (inr struck) = inr struck
-
-  pub pair_later : (a b c : DiskPair D F) → Later means a b → PairRose means b c → PairRose means a c
-  pair_later a b c later (inl one) = inl (rose_later (means a.one).faults (means b.one).faults (means c.one).faults later.one one)
-  pair_later a b c later (inr (inl two)) = inr (inl (rose_later (means a.two).faults (means b.two).faults (means c.two).faults later.two two))
-  pair_later a b c later (inr (inr own)) = inr (inr (rose_later a.faults b.faults c.faults later.own own))
+-- the same of an answer of another type that hands the failure on
+pub spent_on : {D F U : Type 0} {e f : TurnError} (means : D → DiskMeaning) (count other : ℕ) (a b : DiskPair D F) (q : Result U TurnError) → q ≡ Err f → f ≡ e → count ≡ other
+    → (e ≡ failures.Disk → Spends means (4 * count) true a b) × (e ≡ failures.NoMemory → Spends means 0 false a b) → SpentStoring means {T = U} other a b q
+spent_on {U = U} {f = f} means count other a b q is same counts spent =
+    let fails : f ≡ failures.Disk → Spends means (4 * other) true a b = λ disk. subst (λ (n : ℕ). Spends means (4 * n) true a b) counts (spent.0 (sym same ∙ disk)) in
+    let starves : f ≡ failures.NoMemory → Spends means 0 false a b = λ none. spent.1 (sym same ∙ none) in
+    subst (λ (r : Result U TurnError). SpentStoring means {T = U} other a b r) (sym is) (fails, starves)
 
 module _ {D F : Type 0} (told : Bool) (means : D → DiskMeaning) where
   -- what some of these frames stand for since then, by the file that was open

@@ -10,10 +10,10 @@ use Rattle.rq_node.specs.declared.log_entry.LogEntry.{LogEntry}
 use Rattle.rq_node.specs.declared.log_entry.Content.{Content}
 use Rattle.rq_node.specs.declared.log_entry.Content.TheVariants.{NoOp, Execute}
 use Rattle.rq_node.specs.Events.{KeepsPersistent, IsModest}
-use Rattle.rq_node.specs.Node.{Node, Persistent, StoredRecord, Vote, Turn, unchanged, says, persistent_of}
+use Rattle.rq_node.specs.Node.{Node, StoredRecord, Vote, Turn, unchanged, says}
 use Rattle.rq_node.specs.Rules.{elect, led, risen, entry_in, splice_of, execute, execute_sized, taken_up, is_leader, apply, apply_times, apply_next, applied_entry, applied_content}
 use Rattle.rq_node.specs.Sound.{AreReadable, IsPersistentReadable, IsReadable, most_bytes}
-use Rattle.rq_node.specs.Recovery.{HasFile, CanBeRead, IsItemReadable}
+use Rattle.rq_node.specs.Recovery.{IsItemReadable}
 use Rattle.rq_node.proofs.Readable.{all_none, all_one, all_with}
 
 -- ---- an election

@@ -1,16 +1,12 @@
 //! A running node with its log files: docs/RAFT.md.
 ghost use Rattle.std.specs.Prelude.{◌≡◌, ◌⊎◌, ◌<◌, ◌+◌, ◌++◌, ◌∷◌, ◌*◌, ◌^◌, [], List, ℕ, length, map, IsTrue, OnOk, IfOk, IfErr, IsErrOf, is_some, true};
-ghost use Rattle.rq_outside.specs.Pair.{arm_of, UsedCalls, PairRose};
 ghost use Rattle.rq_wire.specs.declared.frame.Frame.TheVariants.{Splice};
-ghost use Rattle.rq_outside.specs.declared.pair.Arm.TheVariants.{Struck};
-ghost use Rattle.rq_wal.specs.Calls.{PassesMost};
-ghost use Rattle.rq_wal.specs.Later.{Later, DeviceRose};
 ghost use Rattle.rq_node.specs.declared.turn_error.TurnError.TheVariants.{Disk as DiskFailed, NoMemory as OutOfMemory};
 ghost use Rattle.rq_wal.specs.Rules.{AreAllowed};
 ghost use Rattle.rq_node.specs.Events.{rule, Brings, KeepsPersistent, IsLeft, IsModest};
 ghost use Rattle.rq_node.specs.Files.{frame_of, stored_of};
 ghost use Rattle.rq_node.specs.Node.{Persistent, StoredRecord, persistent_of, persistent_after};
-ghost use Rattle.rq_node.specs.Recovery.{HasFile, IsBroken, IsOpen, Moments};
+ghost use Rattle.rq_node.specs.Recovery.{HasFile, IsBroken, IsOpen, Moments, SpentStoring};
 ghost use Rattle.rq_node.specs.Rules.{apply};
 ghost use Rattle.rq_node.specs.Sound.{AreReadable};
 
@@ -150,7 +146,7 @@ impl State {
 
 impl Node {
     /// Does what the rule of this event says. What it stores is durable when the answers are there.
-    #[tactic(auto, using(crate::proofs::FileSteps::none_made, crate::proofs::FileSteps::later_same, crate::proofs::Turning::apply_stores))]
+    #[tactic(auto, using(rq_wal::proofs::Spending::spends_none, crate::proofs::Turning::apply_stores))]
     pub fn turn<D: Disk>(
         &mut self,
         alloc: Global,
@@ -161,15 +157,12 @@ impl Node {
         ensures ok { OnOk result (self.new.state ≡ (rule event self.old.state).node) }
         ensures effects { IfOk result (Brings (rule event self.old.state)) }
         ensures open { OnOk result (IsOpen D.told D.means disks.new self.new) }
-        ensures calls { OnOk result (UsedCalls (4 * length (rule event self.old.state).records) (arm_of disks.old) (arm_of disks.new)) }
-        ensures failed { IsErrOf result DiskFailed → IsBroken D.told D.means disks.old disks.new self.old.state.id (persistent_of self.old.state) (rule event self.old.state).records }
+        ensures spent { SpentStoring D.means (length (rule event self.old.state).records) disks.old disks.new result }
+        ensures failed { IsErrOf result DiskFailed → IsBroken D.told D.means disks.new self.old.state.id (persistent_of self.old.state) (rule event self.old.state).records }
         ensures moments { Moments D.told D.means disks.old disks.new self.old.state.id (persistent_of self.old.state) (rule event self.old.state).records }
-        ensures most { PassesMost (4 * length (rule event self.old.state).records) (arm_of disks.old) (arm_of disks.new) }
         ensures stopped { IsErrOf result DiskFailed → self.new.state ≡ self.old.state }
         ensures no_memory { IsErrOf result OutOfMemory → IsLeft event self.old.state self.new.state × IsOpen D.told D.means disks.new self.new }
-        ensures no_memory_arm { IsErrOf result OutOfMemory → arm_of disks.new ≡ arm_of disks.old }
         ensures still { (rule event self.old.state).records ≡ [] → disks.new ≡ disks.old }
-        ensures later { Later D.means disks.old disks.new }
         ensures modest { IsModest self.old.state (rule event self.old.state) }
     {
         know_rule(&self.state, &event);
@@ -229,6 +222,7 @@ fn splice_of(alloc: Global, index: u64, term: u64, body: Body) -> Result<Frame, 
 
 /// Makes frames durable, by four changing calls each. After `Disk` there is no file any more; after `NoMemory` nothing
 /// has changed.
+#[tactic(auto, using(crate::proofs::FileSteps::stored_spent))]
 fn store<D: Disk>(
     file: &mut Option<WalFile>,
     alloc: Global,
@@ -238,15 +232,10 @@ fn store<D: Disk>(
     requires some { is_some file.old ≡ true }
     requires open { (id : List ℕ) × (kept : Persistent) × HasFile D.told D.means disks.old id kept file.old }
     ensures ok { OnOk result ((id : List ℕ) (kept : Persistent) (items : List StoredRecord) → frames.now ≡ map frame_of items → AreAllowed (stored_of id kept) (map frame_of items) → HasFile D.told D.means disks.old id kept file.old → HasFile D.told D.means disks.new id (persistent_after kept items) file.new) }
-    ensures calls { OnOk result (UsedCalls (4 * length frames.now) (arm_of disks.old) (arm_of disks.new)) }
-    ensures failed { IsErrOf result DiskFailed → (id : List ℕ) (kept : Persistent) (first : StoredRecord) (more : List StoredRecord) → frames.now ≡ map frame_of (first ∷ more) → AreAllowed (stored_of id kept) (map frame_of (first ∷ more)) → HasFile D.told D.means disks.old id kept file.old → IsBroken D.told D.means disks.old disks.new id kept (first ∷ more) }
+    ensures spent { SpentStoring D.means (length frames.now) disks.old disks.new result }
+    ensures failed { IsErrOf result DiskFailed → (id : List ℕ) (kept : Persistent) (first : StoredRecord) (more : List StoredRecord) → frames.now ≡ map frame_of (first ∷ more) → AreAllowed (stored_of id kept) (map frame_of (first ∷ more)) → HasFile D.told D.means disks.old id kept file.old → IsBroken D.told D.means disks.new id kept (first ∷ more) }
     ensures no_memory { IsErrOf result OutOfMemory → (id : List ℕ) (kept : Persistent) → HasFile D.told D.means disks.old id kept file.old → HasFile D.told D.means disks.new id kept file.new }
-    ensures no_memory_arm { IsErrOf result OutOfMemory → arm_of disks.new ≡ arm_of disks.old }
-    ensures cause { IsErrOf result DiskFailed → DeviceRose D.means disks.old disks.new ⊎ (arm_of disks.new ≡ Struck) }
     ensures moments { (id : List ℕ) (kept : Persistent) (items : List StoredRecord) → frames.now ≡ map frame_of items → AreAllowed (stored_of id kept) (map frame_of items) → HasFile D.told D.means disks.old id kept file.old → Moments D.told D.means disks.old disks.new id kept items }
-    ensures rose { IsErrOf result DiskFailed → PairRose D.means disks.old disks.new }
-    ensures most { PassesMost (4 * length frames.now) (arm_of disks.old) (arm_of disks.new) }
-    ensures later { Later D.means disks.old disks.new }
 {
     logs_stand_while_room_is_made::<D>();
     let Some(mut wal) = file.take() else {

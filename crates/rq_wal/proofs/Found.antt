@@ -1,5 +1,5 @@
 -- What was found of two files, said of the same bytes.
-use Rattle.std.proofs.Common.{◌≡◌, ◌≢◌, ◌⊎◌, inl, inr, List, ℕ, Option, Result, Ok, Err, IfOk, IfErr, IsErrOf, subst}
+use Rattle.std.proofs.Common.{◌≡◌, ◌⊎◌, inl, inr, List, ℕ, Option, Result, Ok, Err, IfOk, IfErr, subst}
 use Rattle.rq_wal.specs.declared.base.Base.{Base}
 use Rattle.rq_wal.specs.declared.base.Stored.{Stored}
 use Rattle.rq_wal.specs.declared.error.OpenError.{OpenError}
@@ -19,7 +19,3 @@ module _ (first : Base) (r : Result (Option (WalFile × Stored)) OpenError) (one
       weaken (Ok x) h = h
       weaken (Err e) (inl none) = inr (inl none)
       weaken (Err e) (inr gives) = inr (inr gives)
-
-pub never_disk : {A : Type 0} (r : Result A OpenError) → IfErr r (λ e. e ≢ errors.Disk) → IsErrOf r errors.Disk → ⊥
-never_disk (Ok x) h is = cc
-never_disk (Err e) h is = let same : e ≡ errors.Disk = cc in h same

@@ -18,5 +18,6 @@ mod Progress
 mod Unchanged
 mod Settled
 mod Since
+pub mod Spending
 mod SpelledRead
 mod Recovery

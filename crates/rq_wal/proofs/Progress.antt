@@ -1,12 +1,7 @@
 -- How far the writing of several frames has come.
-use Rattle.std.proofs.Common.{◌≡◌, ◌<◌, inl, inr, ℕ, ◌+◌, ◌*◌, Bool, IsTrue, List, [], ◌∷◌, ◌++◌, length, take, drop, get_or, refl, sym, ◌∙◌, ap, subst, arith, Result}
+use Rattle.std.proofs.Common.{◌≡◌, ◌<◌, inl, inr, ℕ, ◌+◌, ◌*◌, Bool, IsTrue, List, [], ◌∷◌, ◌++◌, length, take, drop, get_or, refl, sym, ◌∙◌, ap, subst, arith}
 use Rattle.std.proofs.lemmas.List.{take_more, drop_more}
-use Rattle.rq_outside.specs.declared.pair.DiskPair.{DiskPair}
-use Rattle.rq_outside.specs.declared.pair.Arm.{Arm}
-use Rattle.rq_outside.specs.declared.pair.Arm.TheVariants.{Off, Passes, Struck}
 use Rattle.rq_outside.specs.Disk.{DiskMeaning, LeavesOnly, HasRoom, Uses}
-use Rattle.rq_outside.specs.Pair.{PairRose, PairCause, UsedCalls}
-use Rattle.rq_wal.specs.Later.{Later}
 use Rattle.rq_wal.specs.Gate.{EndsIn, IsAtRest, IsBeforeOrAfter, with_frame}
 use Rattle.rq_wal.specs.Pieces.{with_frames, bytes_of, HasSomePieces}
 use Rattle.rq_wal.proofs.Moments.{started, then, OnlyNow}
@@ -73,27 +68,3 @@ module _ (told : Bool) (old : DiskMeaning) (place : ℕ) (pieces : Pieces) where
           size = omega (arith, so_far.size, bytes, size_is);
           room = record { bytes = omega (arith, so_far.room.bytes, bytes, count, uses.bytes, size_is); calls = omega (arith, so_far.room.calls, count, uses.calls) };
         }
-
--- the counts over two runs
-module _ {D F : Type 0} (means : D → DiskMeaning) where
-  pub rose_later : (old mid new : DiskPair D F) → Later means old mid → PairRose means mid new → PairRose means old new
-  rose_later old mid new later (inl rose) = inl (omega (arith, later.one))
-  rose_later old mid new later (inr (inl rose)) = inr (inl (omega (arith, later.two)))
-  rose_later old mid new later (inr (inr rose)) = inr (inr (omega (arith, later.own)))
-
-  pub later_again : {T E : Type 0} (old mid new : DiskPair D F) (r : Result T E) → Later means old mid → PairCause means mid new r → Later means old new
-  later_again old mid new r later cause = record { one = omega (arith, later.one, cause.one); two = omega (arith, later.two, cause.two); own = omega (arith, later.own, cause.own) }
-
-pub used_none : (a : Arm) → UsedCalls 0 a a
-used_none Off = refl
-used_none (Passes n) = (omega arith, ap Passes (omega arith))
-used_none Struck = (refl, refl)
-
-pub used_again : (j k : ℕ) (a b c : Arm) → UsedCalls j a b → UsedCalls k b c → UsedCalls (j + k) a c
-used_again j k Off b c first second = subst (λ (m : Arm). UsedCalls k m c) first second
-used_again j k (Passes n) b c first second =
-    let rest = subst (λ (m : Arm). UsedCalls k m c) first.1 second in
-    (omega (arith, first.0, rest.0), rest.1 ∙ ap Passes (omega (arith, first.0, rest.0)))
-used_again j k Struck b c first second =
-    let rest = subst (λ (m : Arm). UsedCalls k m c) first.1 second in
-    (omega (arith, first.0, rest.0), rest.1)

@@ -43,12 +43,14 @@ begun_new : (first : Base) (new file : List ℕ) → new ≡ file_bytes 1 first 
 begun_new first new file is fits (inl below) = begun_below first file below
 begun_new first new file is fits (inr same) = inr (same ∙ is, fits)
 
+pub emptied_moments : (first : Base) (old ready mid : DiskMeaning) → generation_of old.content ≡ None → Only old.content old.images → OnlyNow old → Stays old ready → Elapses old ready → LeavesOnly ready mid (IsBelow 0) → LeavesOnly old mid (IsBegun first)
+emptied_moments first old ready mid closed only now same time below =
+    then old ready mid old.images (IsBelow 0) (IsBegun first) (unchanged old ready now time same.no_more) below (λ c image. inl (ap generation_of (only c image) ∙ closed)) (begun_below first)
+
 pub begun_moments : (first : Base) (old ready mid new : DiskMeaning) (rest : List ℕ) → generation_of old.content ≡ None → Only old.content old.images → OnlyNow old → Stays old ready → Elapses old ready → LeavesOnly ready mid (IsBelow 0)
     → LeavesOnly mid new (IsOldOrNew 0 (1 ∷ rest)) → 1 ∷ rest ≡ file_bytes 1 first [] → length (base_bytes first) < 2 ^ 64 → LeavesOnly old new (IsBegun first)
 begun_moments first old ready mid new rest closed only now same time below opens is fits =
-    then old mid new (IsBegun first) (IsOldOrNew 0 (1 ∷ rest)) (IsBegun first)
-    (then old ready mid old.images (IsBelow 0) (IsBegun first) (unchanged old ready now time same.no_more) below (λ c image. inl (ap generation_of (only c image) ∙ closed)) (begun_below first))
-    opens (λ c p. p) (λ c. begun_new first (1 ∷ rest) c is fits)
+    then old mid new (IsBegun first) (IsOldOrNew 0 (1 ∷ rest)) (IsBegun first) (emptied_moments first old ready mid closed only now same time below) opens (λ c p. p) (λ c. begun_new first (1 ∷ rest) c is fits)
 
 -- ---- the current one of two files
 

@@ -1,5 +1,5 @@
 -- What each image since an earlier moment stands for, where between that moment and a write only room was made.
-use Rattle.std.proofs.Common.{◌≡◌, inl, ℕ, zero, List, [], ◌++◌, length, take, Result, Ok, refl, sym, ◌∙◌, ap, subst, arith}
+use Rattle.std.proofs.Common.{◌≡◌, inl, ℕ, zero, List, [], take, Result, Ok, refl, sym, ◌∙◌, subst, arith}
 use Rattle.std.proofs.lemmas.List.{append-nil}
 use Rattle.rq_outside.specs.declared.pair.DiskPair.{DiskPair}
 use Rattle.rq_outside.specs.Disk.{DiskMeaning, Elapses, LeavesOnly, Stays}

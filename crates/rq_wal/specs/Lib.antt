@@ -1,13 +1,12 @@
-pub mod Calls
 pub mod Current
 pub mod Gate
 pub mod Images
-pub mod Later
 pub mod Log
 pub mod Pieces
 pub mod Reading
 pub mod Replace
 pub mod Rules
 pub mod Spelling
+pub mod Spends
 pub mod Stored
 pub mod WalFile

@@ -1,14 +1,15 @@
 // Frames behind open gates.
-ghost use Rattle.std.specs.Prelude.{◌≡◌, ◌≤◌, ◌<◌, ◌+◌, ◌^◌, ◌++◌, List, ℕ, length, take, drop, IsTrue, IfOk, OnOk, OnErr};
+ghost use Rattle.std.specs.Prelude.{is_err, ◌≡◌, ◌≤◌, ◌<◌, ◌+◌, ◌^◌, ◌++◌, List, ℕ, length, take, drop, IsTrue, IfOk, OnOk, OnErr};
 ghost use Rattle.rq_outside.specs.Disk.{LeavesOnly, HasRoom, Uses};
-ghost use Rattle.rq_outside.specs.Pair.{other, disk_at, arm_of, UsedCalls, PairCause};
-ghost use Rattle.rq_wal.specs.Calls.{PassesMost};
+ghost use Rattle.rq_outside.specs.Pair.{other, disk_at};
+ghost use Rattle.rq_wal.specs.Spends.{Spends};
 ghost use Rattle.rq_wal.specs.Gate.{IsAtRest, IsPiece, with_frame, IsBeforeOrAfter};
 
 use crate::synced::write_synced;
 use rq_outside::{Disk, DiskPair, Failed, FileNo};
 
 /// Adds the frame of a piece, at the closed gate at this place.
+#[tactic(auto, using(crate::proofs::Spending::calls))]
 pub fn append<D: Disk>(
     disks: &mut DiskPair<D>,
     file: FileNo,
@@ -24,9 +25,7 @@ pub fn append<D: Disk>(
     ensures done { IsTrue D.told → OnOk result (take (place + length piece.now) (D.means (disk_at disks.new file)).content ≡ with_frame (take place (D.means (disk_at disks.old file)).content) piece.now) }
     ensures any_moment { IsTrue D.told → LeavesOnly (D.means (disk_at disks.old file)) (D.means (disk_at disks.new file)) (IsBeforeOrAfter (take place (D.means (disk_at disks.old file)).content) piece.now) }
     ensures room { Uses (length piece.now + 1) 4 (D.means (disk_at disks.old file)) (D.means (disk_at disks.new file)) }
-    ensures cause { PairCause D.means disks.old disks.new result }
-    ensures arm { OnOk result (UsedCalls 4 (arm_of disks.old) (arm_of disks.new)) }
-    ensures most { PassesMost 4 (arm_of disks.old) (arm_of disks.new) }
+    ensures spent { Spends D.means 4 (is_err result) disks.old disks.new }
 {
     write_synced(disks, file, place + 1, piece)?;
     write_synced(disks, file, place, &[1])?;

@@ -1,20 +1,18 @@
 //! The current file of a pair, and the frames that are to be added to it.
-ghost use Rattle.std.specs.Prelude.{◌≡◌, ◌⊎◌, ◌≤◌, ◌<◌, ◌+◌, ◌*◌, ◌^◌, ◌++◌, List, ℕ, length, take, map, IsTrue, IfOk, OnOk, OnErr};
+ghost use Rattle.std.specs.Prelude.{is_err, false, ◌≡◌, ◌⊎◌, ◌≤◌, ◌<◌, ◌+◌, ◌*◌, ◌^◌, ◌++◌, List, ℕ, length, take, map, IsTrue, IfOk, OnOk, OnErr};
 ghost use Rattle.std.specs.List.{flat_map};
-ghost use Rattle.rq_outside.specs.declared.pair.Arm.TheVariants as arms;
 ghost use Rattle.rq_outside.specs.declared.pair.DiskPair.{DiskPair};
 ghost use Rattle.rq_outside.specs.Disk.{LeavesOnly, HasRoom, Uses, Stays};
-ghost use Rattle.rq_outside.specs.Pair.{other, disk_at, arm_of, own_faults, UsedCalls, PairCause};
+ghost use Rattle.rq_outside.specs.Pair.{other, disk_at};
 ghost use Rattle.rq_wire.specs.declared.frame.Frame.{Frame};
 ghost use Rattle.rq_wal.specs.declared.base.Base.{Base};
 ghost use Rattle.rq_wal.specs.declared.base.Stored.{Stored};
-ghost use Rattle.rq_wal.specs.Calls.{PassesMost, IsShort};
 ghost use Rattle.rq_wal.specs.Current.{IsCurrent, IsSome, OnlyRoom, EachImage, EachImageGives, EachSinceGivesSome, SomeImageGives};
 ghost use Rattle.rq_wal.specs.Gate.{IsAtRest, HasSomeOf};
-ghost use Rattle.rq_wal.specs.Later.{Later, DeviceRose};
 ghost use Rattle.rq_wal.specs.Rules.{AreAllowed};
 ghost use Rattle.rq_wal.specs.Stored.{applied_all};
 ghost use Rattle.rq_wal.specs.Pieces.{bytes_of};
+ghost use Rattle.rq_wal.specs.Spends.{Spends};
 ghost use Rattle.rq_wal.specs.Spelling.{piece_of, gated};
 
 use crate::framing::write_frames;
@@ -96,7 +94,7 @@ impl WalFile {
 
     /// Takes all the memory that writing these frames wants, and does nothing else to the pair. None is given where a payload has 2^32 bytes or more, or
     /// where the file would grow to 2^63 bytes.
-    #[tactic(auto, using(crate::proofs::Since::room_none))]
+    #[tactic(auto, using(crate::proofs::Since::room_none, crate::proofs::Spending::room_spent, crate::proofs::Spending::spends_none))]
     pub fn ready<D: Disk>(
         &mut self,
         alloc: Global,
@@ -114,9 +112,7 @@ impl WalFile {
         ensures now { IsTrue D.told → (first : Base) → EachImage D.means first disks.new (SomeImageGives D.means first disks.old) }
         ensures waits { IsTrue D.told → OnlyRoom D.means disks.old disks.new self.old }
         ensures faults { (D.means (disk_at disks.new (wal_file self.old))).faults ≡ (D.means (disk_at disks.old (wal_file self.old))).faults }
-        ensures arm { arm_of disks.new ≡ arm_of disks.old }
-        ensures own { own_faults disks.new ≡ own_faults disks.old }
-        ensures later { Later D.means disks.old disks.new }
+        ensures spent { Spends D.means 0 false disks.old disks.new }
     {
         let pieces = pieces(alloc, frames)?;
         match self.make_room(disks, &pieces) {
@@ -129,7 +125,7 @@ impl WalFile {
     }
 
     /// Takes the memory that writing these pieces wants.
-    #[tactic(auto, using(crate::proofs::Since::room_none))]
+    #[tactic(auto, using(crate::proofs::Since::room_none, crate::proofs::Spending::room_spent, crate::proofs::Spending::spends_none))]
     fn make_room<D: Disk>(&self, disks: &mut DiskPair<D>, pieces: &[Bytes]) -> Result<(), NoMemory>
         ensures fits { OnOk result (wal_end self.now + bytes_of pieces.now < 2 ^ 63) }
         ensures room { OnOk result (HasRoom (D.means (disk_at disks.new (wal_file self.now))) (bytes_of pieces.now + length pieces.now) (4 * length pieces.now)) }
@@ -140,9 +136,7 @@ impl WalFile {
         ensures now { IsTrue D.told → (first : Base) → EachImage D.means first disks.new (SomeImageGives D.means first disks.old) }
         ensures waits { IsTrue D.told → OnlyRoom D.means disks.old disks.new self.now }
         ensures faults { (D.means (disk_at disks.new (wal_file self.now))).faults ≡ (D.means (disk_at disks.old (wal_file self.now))).faults }
-        ensures arm { arm_of disks.new ≡ arm_of disks.old }
-        ensures own { own_faults disks.new ≡ own_faults disks.old }
-        ensures later { Later D.means disks.old disks.new }
+        ensures spent { Spends D.means 0 false disks.old disks.new }
     {
         let bytes = total(pieces)?;
         let (bytes, calls) = room(self.end, bytes, pieces.len())?;
@@ -168,12 +162,7 @@ impl WalFile {
         ensures some_stand { IsTrue D.told → (first : Base) (stored : Stored) (frames : List Frame) → batch ≡ map piece_of frames → AreAllowed stored frames → IsCurrent D.means first disks.old self stored → EachSinceGivesSome D.means first disks.old disks.new stored frames }
         ensures moments { IsTrue D.told → (began : DiskPair D D.Fault) (first : Base) (stored : Stored) (frames : List Frame) → batch ≡ map piece_of frames → AreAllowed stored frames → IsCurrent D.means first began self stored → OnlyRoom D.means began disks.old self → EachSinceGivesSome D.means first began disks.new stored frames }
         ensures some_now { IsTrue D.told → (first : Base) (stored : Stored) (frames : List Frame) → batch ≡ map piece_of frames → AreAllowed stored frames → IsCurrent D.means first disks.old self stored → EachImage D.means first disks.new (IsSome stored frames) }
-        ensures cause { PairCause D.means disks.old disks.new result }
-        ensures device { OnErr result (DeviceRose D.means disks.old disks.new ⊎ (arm_of disks.new ≡ arms.Struck)) }
-        ensures later { Later D.means disks.old disks.new }
-        ensures calls { OnOk result (UsedCalls (4 * length batch) (arm_of disks.old) (arm_of disks.new)) }
-        ensures most { PassesMost (4 * length batch) (arm_of disks.old) (arm_of disks.new) }
-        ensures struck { arm_of disks.new ≡ arms.Struck → IsShort (4 * length batch) (arm_of disks.old) }
+        ensures spent { Spends D.means (4 * length batch) (is_err result) disks.old disks.new }
     {
         let end = write_frames(disks, self.file, self.end, &batch.pieces)?;
         Ok(WalFile {

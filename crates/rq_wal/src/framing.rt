@@ -1,8 +1,8 @@
 // Several frames in a row.
-ghost use Rattle.std.specs.Prelude.{◌≡◌, ◌≤◌, ◌<◌, ◌+◌, ◌*◌, ◌^◌, ◌++◌, List, ℕ, length, take, drop, All, IsTrue, IfOk, OnOk, OnErr};
+ghost use Rattle.std.specs.Prelude.{is_err, ◌≡◌, ◌≤◌, ◌<◌, ◌+◌, ◌*◌, ◌^◌, ◌++◌, List, ℕ, length, take, drop, All, IsTrue, IfOk, OnOk, OnErr};
 ghost use Rattle.rq_outside.specs.Disk.{LeavesOnly, HasRoom, Uses};
-ghost use Rattle.rq_outside.specs.Pair.{other, disk_at, arm_of, UsedCalls, PairCause};
-ghost use Rattle.rq_wal.specs.Calls.{PassesMost};
+ghost use Rattle.rq_outside.specs.Pair.{other, disk_at};
+ghost use Rattle.rq_wal.specs.Spends.{Spends};
 ghost use Rattle.rq_wal.specs.Gate.{IsAtRest, IsPiece};
 ghost use Rattle.rq_wal.specs.Pieces.{with_frames, bytes_of, HasSomePieces};
 
@@ -11,6 +11,7 @@ use rq_outside::{Disk, DiskPair, Failed, FileNo};
 use rq_values::Bytes;
 
 /// Adds the frames of these pieces in order, at the closed gate at this place, and answers the place of the last gate.
+#[tactic(auto, using(crate::proofs::Spending::calls))]
 pub fn write_frames<D: Disk>(
     disks: &mut DiskPair<D>,
     file: FileNo,
@@ -26,9 +27,7 @@ pub fn write_frames<D: Disk>(
     ensures at_rest { IsTrue D.told → IfOk result (λ end. IsAtRest (D.means (disk_at disks.new file)) end) }
     ensures done { IsTrue D.told → IfOk result (λ end. take end (D.means (disk_at disks.new file)).content ≡ with_frames (take place (D.means (disk_at disks.old file)).content) pieces.now) }
     ensures any_moment { IsTrue D.told → LeavesOnly (D.means (disk_at disks.old file)) (D.means (disk_at disks.new file)) (HasSomePieces (take place (D.means (disk_at disks.old file)).content) pieces.now) }
-    ensures cause { PairCause D.means disks.old disks.new result }
-    ensures arm { OnOk result (UsedCalls (4 * length pieces.now) (arm_of disks.old) (arm_of disks.new)) }
-    ensures most { PassesMost (4 * length pieces.now) (arm_of disks.old) (arm_of disks.new) }
+    ensures spent { Spends D.means (4 * length pieces.now) (is_err result) disks.old disks.new }
 {
     let mut end = place;
     for piece in pieces {

@@ -1,16 +1,16 @@
 //! Opening a pair.
+#![tactic(auto, using(crate::proofs::Spending::opening))]
+
 ghost use Rattle.std.specs.Prelude.{◌≡◌, ◌≢◌, ◌⊎◌, ◌≤◌, ◌<◌, ◌+◌, ◌^◌, ◌∷◌, ◌++◌, [], length, true, false, Some, None, Ok, Err, IsTrue, IfOk, IfErr, OnOk, OnErr, IfSome, OnSome, IsErrOf};
 ghost use Rattle.rq_outside.specs.Disk.{Only, Stays, LeavesOnly};
-ghost use Rattle.rq_outside.specs.declared.pair.Arm.TheVariants as arms;
-ghost use Rattle.rq_outside.specs.Pair.{other, disk_at, arm_of, PairRose};
-ghost use Rattle.rq_wal.specs.Calls.{PassesMost};
-ghost use Rattle.rq_wal.specs.Later.{Later, DeviceRose};
+ghost use Rattle.rq_outside.specs.Pair.{other, disk_at};
 ghost use Rattle.rq_wal.specs.declared.base.Stored.{Stored};
 ghost use Rattle.rq_wal.specs.declared.error.OpenError.TheVariants as errors;
 ghost use Rattle.rq_wal.specs.Current.{IsBegun, IsFound, IsCurrent, EachImage, EachSince, EachImageGives, SomeImageGives};
 ghost use Rattle.rq_wal.specs.Gate.{IsAtRest};
 ghost use Rattle.rq_wal.specs.Reading.{pair_gives};
 ghost use Rattle.rq_wal.specs.Replace.{is_open, generation_of};
+ghost use Rattle.rq_wal.specs.Spends.{SpendsMost, disk_failed};
 ghost use Rattle.rq_wal.specs.Spelling.{base_bytes, body_bytes, prefix_bytes, file_bytes};
 ghost use Rattle.rq_wal.specs.Stored.{IsBase, stored_after};
 ghost use Rattle.rq_wal.specs.WalFile.{wal_file, wal_end, wal_generation};
@@ -51,10 +51,7 @@ pub fn open<D: Disk>(
     ensures end { IsTrue D.told → is_open (D.means (disk_at disks.old FileNo.One)).content ≡ false → is_open (D.means (disk_at disks.old FileNo.Two)).content ≡ false → IfOk result (λ opened. wal_end opened.0 ≡ length (prefix_bytes 1 first.now [])) }
     ensures written { IsTrue D.told → is_open (D.means (disk_at disks.old FileNo.One)).content ≡ false → is_open (D.means (disk_at disks.old FileNo.Two)).content ≡ false → OnOk result ((D.means (disk_at disks.new FileNo.One)).content ≡ file_bytes 1 first.now []) }
     ensures at_rest { IfOk result (λ opened. IsTrue D.told → IsAtRest (D.means (disk_at disks.new (wal_file opened.0))) (wal_end opened.0)) }
-    ensures cause { IsErrOf result errors.Disk → PairRose D.means disks.old disks.new }
-    ensures by { IsErrOf result errors.Disk → DeviceRose D.means disks.old disks.new ⊎ (arm_of disks.new ≡ arms.Struck) }
-    ensures later { Later D.means disks.old disks.new }
-    ensures arm { PassesMost 10 (arm_of disks.old) (arm_of disks.new) }
+    ensures spent { SpendsMost D.means 10 (disk_failed result) disks.old disks.new }
 {
     let found = find(alloc, disks, first)?;
     settle(alloc, disks, first, found)
@@ -82,10 +79,7 @@ fn settle<D: Disk>(
     ensures moments { IsTrue D.told → found ≡ None → LeavesOnly (D.means (disk_at disks.old FileNo.One)) (D.means (disk_at disks.new FileNo.One)) (IsBegun first.now) }
     ensures no_memory { IsTrue D.told → IsErrOf result errors.NoMemory → (D.means (disk_at disks.new FileNo.One)).content ≡ (D.means (disk_at disks.old FileNo.One)).content }
     ensures refusals { IfErr result (λ e. (e ≡ errors.Disk) ⊎ (e ≡ errors.NoMemory)) }
-    ensures later { Later D.means disks.old disks.new }
-    ensures cause { IsErrOf result errors.Disk → PairRose D.means disks.old disks.new }
-    ensures by { IsErrOf result errors.Disk → DeviceRose D.means disks.old disks.new ⊎ (arm_of disks.new ≡ arms.Struck) }
-    ensures most { PassesMost 8 (arm_of disks.old) (arm_of disks.new) }
+    ensures spent { SpendsMost D.means 8 (disk_failed result) disks.old disks.new }
 {
     match found {
         Some(opened) => Ok(opened),
@@ -107,10 +101,7 @@ fn find<D: Disk>(
     ensures two_durable { IsTrue D.told → OnOk result (Only (D.means (disk_at disks.new FileNo.Two)).content (D.means (disk_at disks.new FileNo.Two)).images) }
     ensures one_moments { IsTrue D.told → LeavesOnly (D.means (disk_at disks.old FileNo.One)) (D.means (disk_at disks.new FileNo.One)) (D.means (disk_at disks.old FileNo.One)).images }
     ensures two_moments { IsTrue D.told → LeavesOnly (D.means (disk_at disks.old FileNo.Two)) (D.means (disk_at disks.new FileNo.Two)) (D.means (disk_at disks.old FileNo.Two)).images }
-    ensures later { Later D.means disks.old disks.new }
-    ensures cause { IsErrOf result errors.Disk → PairRose D.means disks.old disks.new }
-    ensures by { IsErrOf result errors.Disk → DeviceRose D.means disks.old disks.new ⊎ (arm_of disks.new ≡ arms.Struck) }
-    ensures most { PassesMost 2 (arm_of disks.old) (arm_of disks.new) }
+    ensures spent { SpendsMost D.means 2 (disk_failed result) disks.old disks.new }
 {
     let (one, two) = look(alloc, disks)?;
     choose(alloc, first, &one, &two)
@@ -135,10 +126,7 @@ fn begin<D: Disk>(
     ensures moments { IsTrue D.told → LeavesOnly (D.means (disk_at disks.old FileNo.One)) (D.means (disk_at disks.new FileNo.One)) (IsBegun first.now) }
     ensures no_memory { IsTrue D.told → IsErrOf result errors.NoMemory → (D.means (disk_at disks.new FileNo.One)).content ≡ (D.means (disk_at disks.old FileNo.One)).content }
     ensures refusals { IfErr result (λ e. (e ≡ errors.Disk) ⊎ (e ≡ errors.NoMemory)) }
-    ensures later { Later D.means disks.old disks.new }
-    ensures cause { IsErrOf result errors.Disk → PairRose D.means disks.old disks.new }
-    ensures by { IsErrOf result errors.Disk → DeviceRose D.means disks.old disks.new ⊎ (arm_of disks.new ≡ arms.Struck) }
-    ensures most { PassesMost 8 (arm_of disks.old) (arm_of disks.new) }
+    ensures spent { SpendsMost D.means 8 (disk_failed result) disks.old disks.new }
 {
     let base = first.copy(alloc)?;
     match body(alloc, 1, first) {
@@ -178,10 +166,7 @@ fn write_body<D: Disk>(disks: &mut DiskPair<D>, first: &Base, body: &[u8]) -> Re
     ensures moments { IsTrue D.told → LeavesOnly (D.means (disk_at disks.old FileNo.One)) (D.means (disk_at disks.new FileNo.One)) (IsBegun first.now) }
     ensures no_memory { IsTrue D.told → IsErrOf result errors.NoMemory → (D.means (disk_at disks.new FileNo.One)).content ≡ (D.means (disk_at disks.old FileNo.One)).content }
     ensures refusals { IfErr result (λ e. (e ≡ errors.Disk) ⊎ (e ≡ errors.NoMemory)) }
-    ensures later { Later D.means disks.old disks.new }
-    ensures cause { IsErrOf result errors.Disk → PairRose D.means disks.old disks.new }
-    ensures by { IsErrOf result errors.Disk → DeviceRose D.means disks.old disks.new ⊎ (arm_of disks.new ≡ arms.Struck) }
-    ensures most { PassesMost 8 (arm_of disks.old) (arm_of disks.new) }
+    ensures spent { SpendsMost D.means 8 (disk_failed result) disks.old disks.new }
 {
     disks.ready(FileNo::One, body.len() as u64 + 2, 8)?;
     begin_replace(disks, FileNo::One, 0)?;
@@ -199,11 +184,8 @@ fn look<D: Disk>(alloc: Global, disks: &mut DiskPair<D>) -> Result<(Vec<u8>, Vec
     ensures two_durable { IsTrue D.told → OnOk result (Only (D.means (disk_at disks.new FileNo.Two)).content (D.means (disk_at disks.new FileNo.Two)).images) }
     ensures one_moments { IsTrue D.told → LeavesOnly (D.means (disk_at disks.old FileNo.One)) (D.means (disk_at disks.new FileNo.One)) (D.means (disk_at disks.old FileNo.One)).images }
     ensures two_moments { IsTrue D.told → LeavesOnly (D.means (disk_at disks.old FileNo.Two)) (D.means (disk_at disks.new FileNo.Two)) (D.means (disk_at disks.old FileNo.Two)).images }
-    ensures later { Later D.means disks.old disks.new }
     ensures refusals { IfErr result (λ e. (e ≡ errors.Disk) ⊎ (e ≡ errors.NoMemory)) }
-    ensures cause { IsErrOf result errors.Disk → PairRose D.means disks.old disks.new }
-    ensures by { IsErrOf result errors.Disk → DeviceRose D.means disks.old disks.new ⊎ (arm_of disks.new ≡ arms.Struck) }
-    ensures most { PassesMost 2 (arm_of disks.old) (arm_of disks.new) }
+    ensures spent { SpendsMost D.means 2 (disk_failed result) disks.old disks.new }
 {
     let one = read_synced(alloc, disks, FileNo::One)?;
     match read_synced(alloc, disks, FileNo::Two) {
@@ -226,11 +208,8 @@ fn read_synced<D: Disk>(
     ensures bytes { IsTrue D.told → IfOk result (λ bytes. bytes.items ≡ (D.means (disk_at disks.old file)).content) }
     ensures durable { IsTrue D.told → OnOk result (Only (D.means (disk_at disks.new file)).content (D.means (disk_at disks.new file)).images) }
     ensures moments { IsTrue D.told → LeavesOnly (D.means (disk_at disks.old file)) (D.means (disk_at disks.new file)) (D.means (disk_at disks.old file)).images }
-    ensures later { Later D.means disks.old disks.new }
     ensures refusals { IfErr result (λ e. (e ≡ errors.Disk) ⊎ (e ≡ errors.NoMemory)) }
-    ensures cause { IsErrOf result errors.Disk → PairRose D.means disks.old disks.new }
-    ensures by { IsErrOf result errors.Disk → DeviceRose D.means disks.old disks.new ⊎ (arm_of disks.new ≡ arms.Struck) }
-    ensures most { PassesMost 1 (arm_of disks.old) (arm_of disks.new) }
+    ensures spent { SpendsMost D.means 1 (disk_failed result) disks.old disks.new }
 {
     sync_made(disks, file)?;
     read_whole(alloc, disks, file)
@@ -243,10 +222,7 @@ fn sync_made<D: Disk>(disks: &mut DiskPair<D>, file: FileNo) -> Result<(), OpenE
     ensures durable { IsTrue D.told → OnOk result (Only (D.means (disk_at disks.new file)).content (D.means (disk_at disks.new file)).images) }
     ensures moments { IsTrue D.told → LeavesOnly (D.means (disk_at disks.old file)) (D.means (disk_at disks.new file)) (D.means (disk_at disks.old file)).images }
     ensures refusals { IfErr result (λ e. (e ≡ errors.Disk) ⊎ (e ≡ errors.NoMemory)) }
-    ensures later { Later D.means disks.old disks.new }
-    ensures cause { IsErrOf result errors.Disk → PairRose D.means disks.old disks.new }
-    ensures by { IsErrOf result errors.Disk → DeviceRose D.means disks.old disks.new ⊎ (arm_of disks.new ≡ arms.Struck) }
-    ensures most { PassesMost 1 (arm_of disks.old) (arm_of disks.new) }
+    ensures spent { SpendsMost D.means 1 (disk_failed result) disks.old disks.new }
 {
     disks.ready(file, 0, 1)?;
     disks.sync(file)?;
@@ -264,10 +240,7 @@ fn read_whole<D: Disk>(
     ensures same { IsTrue D.told → Stays (D.means (disk_at disks.old file)) (D.means (disk_at disks.new file)) }
     ensures moments { IsTrue D.told → LeavesOnly (D.means (disk_at disks.old file)) (D.means (disk_at disks.new file)) (D.means (disk_at disks.old file)).images }
     ensures refusals { IfErr result (λ e. (e ≡ errors.Disk) ⊎ (e ≡ errors.NoMemory)) }
-    ensures later { Later D.means disks.old disks.new }
-    ensures cause { IsErrOf result errors.Disk → PairRose D.means disks.old disks.new }
-    ensures by { IsErrOf result errors.Disk → DeviceRose D.means disks.old disks.new ⊎ (arm_of disks.new ≡ arms.Struck) }
-    ensures most { PassesMost 0 (arm_of disks.old) (arm_of disks.new) }
+    ensures spent { SpendsMost D.means 0 (disk_failed result) disks.old disks.new }
 {
     let len = disks.len(file)?;
     let mut bytes = vec![in alloc; 0u8; len as usize]?;

@@ -1,8 +1,10 @@
 // The other file takes a new base, in eight changing calls.
-ghost use Rattle.std.specs.Prelude.{◌≡◌, ◌≤◌, ◌<◌, ◌+◌, ◌++◌, ◌∷◌, [], Some, List, ℕ, length, take, drop, IsTrue, IfOk, OnOk, OnErr};
+#![tactic(auto, using(crate::proofs::Spending::calls))]
+
+ghost use Rattle.std.specs.Prelude.{is_err, ◌≡◌, ◌≤◌, ◌<◌, ◌+◌, ◌++◌, ◌∷◌, [], Some, List, ℕ, length, take, drop, IsTrue, IfOk, OnOk, OnErr};
 ghost use Rattle.rq_outside.specs.Disk.{Cut, Only, LeavesOnly, HasRoom, Uses};
-ghost use Rattle.rq_outside.specs.Pair.{other, disk_at, arm_of, UsedCalls, PairCause};
-ghost use Rattle.rq_wal.specs.Calls.{PassesMost};
+ghost use Rattle.rq_outside.specs.Pair.{other, disk_at};
+ghost use Rattle.rq_wal.specs.Spends.{Spends};
 ghost use Rattle.rq_wal.specs.Replace.{generation_of, IsBelow, IsOldOrNew};
 
 use crate::synced::write_synced;
@@ -22,9 +24,7 @@ pub fn begin_replace<D: Disk>(
     ensures durable { IsTrue D.told → OnOk result (Only (D.means (disk_at disks.new file)).content (D.means (disk_at disks.new file)).images) }
     ensures any_moment { IsTrue D.told → LeavesOnly (D.means (disk_at disks.old file)) (D.means (disk_at disks.new file)) (IsBelow generation) }
     ensures room { Uses 1 4 (D.means (disk_at disks.old file)) (D.means (disk_at disks.new file)) }
-    ensures cause { PairCause D.means disks.old disks.new result }
-    ensures arm { OnOk result (UsedCalls 4 (arm_of disks.old) (arm_of disks.new)) }
-    ensures most { PassesMost 4 (arm_of disks.old) (arm_of disks.new) }
+    ensures spent { Spends D.means 4 (is_err result) disks.old disks.new }
 {
     cut_synced(disks, file, 0)?;
     write_synced(disks, file, 0, &[0])?;
@@ -48,9 +48,7 @@ pub fn finish_replace<D: Disk>(
     ensures durable { IsTrue D.told → OnOk result (Only (D.means (disk_at disks.new file)).content (D.means (disk_at disks.new file)).images) }
     ensures any_moment { IsTrue D.told → LeavesOnly (D.means (disk_at disks.old file)) (D.means (disk_at disks.new file)) (IsOldOrNew generation (1 ∷ rest.now)) }
     ensures room { Uses (length rest.now + 1) 4 (D.means (disk_at disks.old file)) (D.means (disk_at disks.new file)) }
-    ensures cause { PairCause D.means disks.old disks.new result }
-    ensures arm { OnOk result (UsedCalls 4 (arm_of disks.old) (arm_of disks.new)) }
-    ensures most { PassesMost 4 (arm_of disks.old) (arm_of disks.new) }
+    ensures spent { Spends D.means 4 (is_err result) disks.old disks.new }
 {
     write_synced(disks, file, 1, rest)?;
     write_synced(disks, file, 0, &[1])?;
@@ -67,9 +65,7 @@ fn cut_synced<D: Disk>(disks: &mut DiskPair<D>, file: FileNo, to: u64) -> Result
     ensures durable { IsTrue D.told → OnOk result (Only (D.means (disk_at disks.new file)).content (D.means (disk_at disks.new file)).images) }
     ensures any_moment { IsTrue D.told → LeavesOnly (D.means (disk_at disks.old file)) (D.means (disk_at disks.new file)) (Cut to (D.means (disk_at disks.old file)).content) }
     ensures room { Uses 0 2 (D.means (disk_at disks.old file)) (D.means (disk_at disks.new file)) }
-    ensures cause { PairCause D.means disks.old disks.new result }
-    ensures arm { OnOk result (UsedCalls 2 (arm_of disks.old) (arm_of disks.new)) }
-    ensures most { PassesMost 2 (arm_of disks.old) (arm_of disks.new) }
+    ensures spent { Spends D.means 2 (is_err result) disks.old disks.new }
 {
     disks.cut(file, to)?;
     disks.sync(file)?;

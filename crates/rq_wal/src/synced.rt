@@ -1,12 +1,13 @@
 // A changing call and the sync behind it.
-ghost use Rattle.std.specs.Prelude.{◌≡◌, ◌≤◌, ◌<◌, ◌++◌, List, ℕ, length, take, drop, IsTrue, IfOk, OnOk, OnErr};
+ghost use Rattle.std.specs.Prelude.{is_err, ◌≡◌, ◌≤◌, ◌<◌, ◌++◌, List, ℕ, length, take, drop, IsTrue, IfOk, OnOk, OnErr};
 ghost use Rattle.rq_outside.specs.Disk.{Torn, Holds, Only, LeavesOnly, HasRoom, Uses};
-ghost use Rattle.rq_outside.specs.Pair.{other, disk_at, arm_of, UsedCalls, PairCause};
-ghost use Rattle.rq_wal.specs.Calls.{PassesMost};
+ghost use Rattle.rq_outside.specs.Pair.{other, disk_at};
+ghost use Rattle.rq_wal.specs.Spends.{Spends};
 
 use rq_outside::{Disk, DiskPair, Failed, FileNo};
 
 /// Writes a piece, and syncs it.
+#[tactic(auto, using(crate::proofs::Spending::calls))]
 pub fn write_synced<D: Disk>(
     disks: &mut DiskPair<D>,
     file: FileNo,
@@ -22,9 +23,7 @@ pub fn write_synced<D: Disk>(
     ensures durable { IsTrue D.told → OnOk result (Only (D.means (disk_at disks.new file)).content (D.means (disk_at disks.new file)).images) }
     ensures any_moment { IsTrue D.told → LeavesOnly (D.means (disk_at disks.old file)) (D.means (disk_at disks.new file)) (Torn at (length piece.now) (D.means (disk_at disks.old file)).content) }
     ensures room { Uses (length piece.now) 2 (D.means (disk_at disks.old file)) (D.means (disk_at disks.new file)) }
-    ensures cause { PairCause D.means disks.old disks.new result }
-    ensures arm { OnOk result (UsedCalls 2 (arm_of disks.old) (arm_of disks.new)) }
-    ensures most { PassesMost 2 (arm_of disks.old) (arm_of disks.new) }
+    ensures spent { Spends D.means 2 (is_err result) disks.old disks.new }
 {
     disks.write_at(file, at, piece)?;
     disks.sync(file)?;

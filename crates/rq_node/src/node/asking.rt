@@ -1,17 +1,14 @@
 //! Asks: docs/RAFT.md, "Ask".
 ghost use Rattle.std.specs.Prelude.{◌≡◌, ◌∷◌, ◌≤◌, ◌*◌, [], length, Some, IfOk, OnOk, OnErr, IsErrOf, MatchOption, nat_lt};
-ghost use Rattle.rq_outside.specs.Pair.{arm_of, UsedCalls};
 ghost use Rattle.rq_values.specs.Exact.{AreBytes};
 ghost use Rattle.rq_statement.specs.Bytes.{execute_bytes};
 ghost use Rattle.rq_request.specs.declared.say.Say.TheVariants.{Results};
-ghost use Rattle.rq_wal.specs.Calls.{PassesMost};
-ghost use Rattle.rq_wal.specs.Later.{Later};
 ghost use Rattle.rq_node.specs.declared.turn_error.TurnError.TheVariants.{Disk as DiskFailed, NoMemory as OutOfMemory};
 ghost use Rattle.rq_node.specs.Node.{persistent_of, says};
 ghost use Rattle.rq_node.specs.Events.{Brings};
 ghost use Rattle.rq_node.specs.Rules.{execute, execute_sized, query, taken_up};
 ghost use Rattle.rq_node.specs.Sound.{most_bytes};
-ghost use Rattle.rq_node.specs.Recovery.{IsOpen, IsBroken, Moments};
+ghost use Rattle.rq_node.specs.Recovery.{IsOpen, IsBroken, Moments, SpentStoring};
 
 use super::{Node, State, splice_of, store};
 use crate::event::Effects;
@@ -60,7 +57,7 @@ fn are_bytes(bytes: &[u8])
 
 impl Node {
     /// Appends a list of statements at a leader, to be answered when it is applied; else says why not.
-    #[tactic(auto, using(crate::proofs::FileSteps::none_made))]
+    #[tactic(auto, using(rq_wal::proofs::Spending::spends_none))]
     pub(super) fn execute<D: Disk>(
         &mut self,
         alloc: Global,
@@ -72,15 +69,12 @@ impl Node {
         ensures effects { IfOk result (Brings (execute self.old.state number items)) }
         ensures ok { OnOk result (self.new.state ≡ (execute self.old.state number items).node) }
         ensures open { OnOk result (IsOpen D.told D.means disks.new self.new) }
-        ensures calls { OnOk result (UsedCalls (4 * length (execute self.old.state number items).records) (arm_of disks.old) (arm_of disks.new)) }
-        ensures failed { IsErrOf result DiskFailed → IsBroken D.told D.means disks.old disks.new self.old.state.id (persistent_of self.old.state) (execute self.old.state number items).records }
+        ensures spent { SpentStoring D.means (length (execute self.old.state number items).records) disks.old disks.new result }
+        ensures failed { IsErrOf result DiskFailed → IsBroken D.told D.means disks.new self.old.state.id (persistent_of self.old.state) (execute self.old.state number items).records }
         ensures moments { Moments D.told D.means disks.old disks.new self.old.state.id (persistent_of self.old.state) (execute self.old.state number items).records }
-        ensures most { PassesMost (4 * length (execute self.old.state number items).records) (arm_of disks.old) (arm_of disks.new) }
         ensures err { OnErr result (self.new.state ≡ self.old.state) }
         ensures no_memory { IsErrOf result OutOfMemory → IsOpen D.told D.means disks.new self.new }
-        ensures no_memory_arm { IsErrOf result OutOfMemory → arm_of disks.new ≡ arm_of disks.old }
         ensures still { (execute self.old.state number items).records ≡ [] → disks.new ≡ disks.old }
-        ensures later { Later D.means disks.old disks.new }
     {
         let term = self.state.term;
         if self.state.role != Role::Leader {
@@ -97,7 +91,7 @@ impl Node {
     }
 
     /// Appends an entry with this list, spelled as these bytes. A leader that is the one voter commits it at once.
-    #[tactic(auto, using(crate::proofs::FileSteps::none_made))]
+    #[tactic(auto, using(rq_wal::proofs::Spending::spends_none))]
     fn append<D: Disk>(
         &mut self,
         alloc: Global,
@@ -112,14 +106,11 @@ impl Node {
         requires bytes { AreBytes command }
         ensures ok { OnOk result (self.new.state ≡ (taken_up self.old.state number items).node) }
         ensures open { OnOk result (IsOpen D.told D.means disks.new self.new) }
-        ensures calls { OnOk result (UsedCalls 4 (arm_of disks.old) (arm_of disks.new)) }
-        ensures failed { IsErrOf result DiskFailed → IsBroken D.told D.means disks.old disks.new self.old.state.id (persistent_of self.old.state) (taken_up self.old.state number items).records }
+        ensures spent { SpentStoring D.means 1 disks.old disks.new result }
+        ensures failed { IsErrOf result DiskFailed → IsBroken D.told D.means disks.new self.old.state.id (persistent_of self.old.state) (taken_up self.old.state number items).records }
         ensures moments { Moments D.told D.means disks.old disks.new self.old.state.id (persistent_of self.old.state) (taken_up self.old.state number items).records }
-        ensures most { PassesMost 4 (arm_of disks.old) (arm_of disks.new) }
         ensures err { OnErr result (self.new.state ≡ self.old.state) }
         ensures no_memory { IsErrOf result OutOfMemory → IsOpen D.told D.means disks.new self.new }
-        ensures no_memory_arm { IsErrOf result OutOfMemory → arm_of disks.new ≡ arm_of disks.old }
-        ensures later { Later D.means disks.old disks.new }
     {
         items_can_be_read(items.as_slice());
         let state = &mut self.state;

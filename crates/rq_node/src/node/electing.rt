@@ -1,15 +1,12 @@
 //! An election: docs/RAFT.md, "Elect".
 ghost use Rattle.std.specs.Prelude.{◌≡◌, ◌<◌, ◌-◌, ◌^◌, ◌*◌, [], length, IsTrue, Some, OnOk, OnErr, IfOk, IsErrOf};
 ghost use Rattle.rq_values.specs.Text.{is_id};
-ghost use Rattle.rq_outside.specs.Pair.{arm_of, UsedCalls};
 ghost use Rattle.rq_wire.specs.declared.frame.Frame.TheVariants.{Vote};
-ghost use Rattle.rq_wal.specs.Calls.{PassesMost};
-ghost use Rattle.rq_wal.specs.Later.{Later};
 ghost use Rattle.rq_node.specs.declared.turn_error.TurnError.TheVariants.{Disk as DiskFailed, NoMemory as OutOfMemory};
 ghost use Rattle.rq_node.specs.Node.{persistent_of};
 ghost use Rattle.rq_node.specs.Events.{Brings};
 ghost use Rattle.rq_node.specs.Rules.{elect, led};
-ghost use Rattle.rq_node.specs.Recovery.{IsOpen, IsBroken, Moments};
+ghost use Rattle.rq_node.specs.Recovery.{IsOpen, IsBroken, Moments, SpentStoring};
 
 use super::{Node, splice_of, store};
 use crate::event::Effects;
@@ -24,7 +21,7 @@ use std::alloc::Global;
 
 impl Node {
     /// Stands for the next term. The one voter's own vote is a quorum, so it leads at once.
-    #[tactic(auto, using(crate::proofs::FileSteps::none_made))]
+    #[tactic(auto, using(rq_wal::proofs::Spending::spends_none))]
     pub(super) fn elect<D: Disk>(
         &mut self,
         alloc: Global,
@@ -34,15 +31,12 @@ impl Node {
         ensures ok { OnOk result (self.new.state ≡ (elect self.old.state).node) }
         ensures effects { IfOk result (Brings (elect self.old.state)) }
         ensures open { OnOk result (IsOpen D.told D.means disks.new self.new) }
-        ensures calls { OnOk result (UsedCalls (4 * length (elect self.old.state).records) (arm_of disks.old) (arm_of disks.new)) }
-        ensures failed { IsErrOf result DiskFailed → IsBroken D.told D.means disks.old disks.new self.old.state.id (persistent_of self.old.state) (elect self.old.state).records }
+        ensures spent { SpentStoring D.means (length (elect self.old.state).records) disks.old disks.new result }
+        ensures failed { IsErrOf result DiskFailed → IsBroken D.told D.means disks.new self.old.state.id (persistent_of self.old.state) (elect self.old.state).records }
         ensures moments { Moments D.told D.means disks.old disks.new self.old.state.id (persistent_of self.old.state) (elect self.old.state).records }
-        ensures most { PassesMost (4 * length (elect self.old.state).records) (arm_of disks.old) (arm_of disks.new) }
         ensures err { OnErr result (self.new.state ≡ self.old.state) }
         ensures no_memory { IsErrOf result OutOfMemory → IsOpen D.told D.means disks.new self.new }
-        ensures no_memory_arm { IsErrOf result OutOfMemory → arm_of disks.new ≡ arm_of disks.old }
         ensures still { (elect self.old.state).records ≡ [] → disks.new ≡ disks.old }
-        ensures later { Later D.means disks.old disks.new }
     {
         if self.state.role == Role::Leader || self.state.term == u64::MAX {
             return Ok(Effects::stores(alloc, 0));
@@ -52,20 +46,17 @@ impl Node {
     }
 
     /// Goes to the next term, votes for itself, and leads.
-    #[tactic(auto, using(crate::proofs::FileSteps::none_made))]
+    #[tactic(auto, using(rq_wal::proofs::Spending::spends_none))]
     fn lead<D: Disk>(&mut self, alloc: Global, disks: &mut DiskPair<D>) -> Result<(), TurnError>
         requires open { IsOpen D.told D.means disks.old self.old }
         requires term { self.old.state.term < 2 ^ 64 - 1 }
         ensures ok { OnOk result (self.new.state ≡ (led self.old.state).node) }
         ensures open { OnOk result (IsOpen D.told D.means disks.new self.new) }
-        ensures calls { OnOk result (UsedCalls 8 (arm_of disks.old) (arm_of disks.new)) }
-        ensures failed { IsErrOf result DiskFailed → IsBroken D.told D.means disks.old disks.new self.old.state.id (persistent_of self.old.state) (led self.old.state).records }
+        ensures spent { SpentStoring D.means 2 disks.old disks.new result }
+        ensures failed { IsErrOf result DiskFailed → IsBroken D.told D.means disks.new self.old.state.id (persistent_of self.old.state) (led self.old.state).records }
         ensures moments { Moments D.told D.means disks.old disks.new self.old.state.id (persistent_of self.old.state) (led self.old.state).records }
-        ensures most { PassesMost 8 (arm_of disks.old) (arm_of disks.new) }
         ensures err { OnErr result (self.new.state ≡ self.old.state) }
         ensures no_memory { IsErrOf result OutOfMemory → IsOpen D.told D.means disks.new self.new }
-        ensures no_memory_arm { IsErrOf result OutOfMemory → arm_of disks.new ≡ arm_of disks.old }
-        ensures later { Later D.means disks.old disks.new }
     {
         let state = &mut self.state;
         let term = state.term + 1;

@@ -1,13 +1,13 @@
 //! Starting a node: docs/RAFT.md, "Start".
+#![tactic(auto, using(rq_wal::proofs::Spending::opening))]
+
 ghost use Rattle.std.specs.Prelude.{◌≡◌, ◌≢◌, ◌⊎◌, ◌≤◌, ◌<◌, ◌+◌, ◌++◌, ◌∷◌, ◌^◌, [], List, ℕ, length, map, take, Ok, Some, IsTrue, IfOk, IfErr, OnOk, OnErr, IsErrOf, All};
 ghost use Rattle.rq_values.specs.Text.{is_addr};
-ghost use Rattle.rq_outside.specs.Pair.{arm_of, disk_at, PairRose};
+ghost use Rattle.rq_outside.specs.Pair.{disk_at};
 ghost use Rattle.rq_outside.specs.declared.pair.FileNo.TheVariants.{One, Two};
-ghost use Rattle.rq_outside.specs.declared.pair.Arm.TheVariants.{Struck};
 ghost use Rattle.rq_wire.specs.declared.entry.Entry.{Entry as TheEntry};
-ghost use Rattle.rq_wal.specs.Calls.{PassesMost};
 ghost use Rattle.rq_wal.specs.Current.{IsCurrent, EachImageGives};
-ghost use Rattle.rq_wal.specs.Later.{Later, DeviceRose};
+ghost use Rattle.rq_wal.specs.Spends.{SpendsMost};
 ghost use Rattle.rq_wal.specs.declared.error.OpenError.TheVariants as opening;
 ghost use Rattle.rq_wal.specs.Reading.{pair_gives};
 ghost use Rattle.rq_node.specs.declared.error.NodeError.TheVariants.{Disk as DiskFailed, NoMemory as OutOfMemory, Command, Ended};
@@ -23,7 +23,7 @@ ghost use Rattle.rq_node.specs.Files.{first_base, first_image, body_of, stored_e
 ghost use Rattle.rq_node.specs.Opened.{refusal_of, most_boots, IsNoCommand, IsNoEntry, IsNoLog, IsRefusal, IsStart};
 ghost use Rattle.rq_node.specs.Rules.{started};
 ghost use Rattle.rq_node.specs.Sound.{AreReadable, IsPersistentReadable};
-ghost use Rattle.rq_node.specs.Recovery.{HasFile, IsOpen, IsSomeOf, Stands, CanBeRead, FailedOpening};
+ghost use Rattle.rq_node.specs.Recovery.{disk_failed, HasFile, IsOpen, IsSomeOf, Stands, CanBeRead, FailedOpening};
 
 use super::{Node, State, store};
 use crate::error::NodeError;
@@ -58,10 +58,7 @@ impl Node {
         ensures open { IfOk result (λ node. IsOpen D.told D.means disks.new node) }
         ensures failed { IsErrOf result DiskFailed → (kept : Persistent) (items : List StoredRecord) → CanBeRead kept items → Stands D.told D.means disks.old id kept items → FailedOpening D.told D.means disks.new id kept items }
         ensures refused { IsTrue D.told → (kept : Persistent) (items : List StoredRecord) → CanBeRead kept items → Stands D.told D.means disks.old id kept items → IfErr result (λ e. (e ≡ DiskFailed) ⊎ (Stands D.told D.means disks.new id kept items × ((e ≡ OutOfMemory) ⊎ ((boot : ℕ) × (e ≡ Ended boot))))) }
-        ensures rose { IsErrOf result DiskFailed → PairRose D.means disks.old disks.new }
-        ensures cause { IsErrOf result DiskFailed → DeviceRose D.means disks.old disks.new ⊎ (arm_of disks.new ≡ Struck) }
-        ensures arm { PassesMost 14 (arm_of disks.old) (arm_of disks.new) }
-        ensures later { Later D.means disks.old disks.new }
+        ensures spent { SpendsMost D.means 14 (disk_failed result) disks.old disks.new }
     {
         match open_files(alloc, disks, id) {
             Ok((wal, stored)) => match started_state(alloc, id, stored) {
@@ -85,10 +82,7 @@ fn open_files<D: Disk>(
     ensures given { IsTrue D.told → (kept : Persistent) (items : List StoredRecord) → Stands D.told D.means disks.old id kept items → IfOk result (λ opened. IsSomeOf id kept items (Ok opened.1)) }
     ensures stands { (kept : Persistent) (items : List StoredRecord) → Stands D.told D.means disks.old id kept items → Stands D.told D.means disks.new id kept items }
     ensures refused { IsTrue D.told → (kept : Persistent) (items : List StoredRecord) → Stands D.told D.means disks.old id kept items → IfErr result (λ e. (e ≡ DiskFailed) ⊎ (e ≡ OutOfMemory)) }
-    ensures rose { IsErrOf result DiskFailed → PairRose D.means disks.old disks.new }
-    ensures cause { IsErrOf result DiskFailed → DeviceRose D.means disks.old disks.new ⊎ (arm_of disks.new ≡ Struck) }
-    ensures arm { PassesMost 10 (arm_of disks.old) (arm_of disks.new) }
-    ensures later { Later D.means disks.old disks.new }
+    ensures spent { SpendsMost D.means 10 (disk_failed result) disks.old disks.new }
 {
     let first = first_base(alloc, id)?;
     match open(alloc, disks, &first) {
@@ -153,10 +147,7 @@ fn store_boot<D: Disk>(
     ensures failed { IsErrOf result DiskFailed → (kept : Persistent) → HasFile D.told D.means disks.old state.id kept (Some wal) → Stands D.told D.means disks.new state.id kept (Boot state.boot ∷ []) }
     ensures no_memory { IsErrOf result OutOfMemory → (kept : Persistent) → HasFile D.told D.means disks.old state.id kept (Some wal) → IsTrue D.told → EachImageGives D.means (first_base state.id) disks.new (stored_of state.id kept) }
     ensures refused { IfErr result (λ e. (e ≡ DiskFailed) ⊎ (e ≡ OutOfMemory)) }
-    ensures rose { IsErrOf result DiskFailed → PairRose D.means disks.old disks.new }
-    ensures cause { IsErrOf result DiskFailed → DeviceRose D.means disks.old disks.new ⊎ (arm_of disks.new ≡ Struck) }
-    ensures arm { PassesMost 4 (arm_of disks.old) (arm_of disks.new) }
-    ensures later { Later D.means disks.old disks.new }
+    ensures spent { SpendsMost D.means 4 (disk_failed result) disks.old disks.new }
 {
     current_logs_stand::<D>();
     let mut file = Some(wal);

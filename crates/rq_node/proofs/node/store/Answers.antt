@@ -1,13 +1,9 @@
-use Rattle.std.proofs.Common.{◌≡◌, ◌*◌, ◌∷◌, ◌∙◌, ℕ, length, Some, Option, refl, sym, ap, subst}
-use Rattle.std.proofs.lemmas.List.{length-map}
-use Rattle.rq_outside.specs.Pair.{arm_of}
-use Rattle.rq_wal.specs.Calls.{IsShort}
+use Rattle.std.proofs.Common.{◌≡◌, ◌∷◌, ◌∙◌, true, false, Some, Option, refl, sym, subst}
 use Rattle.rq_wal.specs.Rules.{AreAllowed}
-use Rattle.rq_wal.specs.Spelling.{piece_of}
 use Rattle.rq_wal.specs.declared.file.WalFile.{WalFile}
 use Rattle.rq_node.specs.Files.{first_base, frame_of, stored_of}
 use Rattle.rq_node.specs.Recovery.{HasFile}
-use Rattle.rq_node.proofs.FileSteps.{file_at_rest, file_more, some_stand, device_later, pair_later, some_since, none_since}
+use Rattle.rq_node.proofs.FileSteps.{stored_spent, file_at_rest, file_more, some_stand, some_since, none_since}
 use Rattle.rq_node.proofs.node.store.Goals as goal
 
 pub write-requires-clause-at_rest : goal.write-requires-clause-at_rest
@@ -30,7 +26,6 @@ returns-in-Err-write-clause-failed g c = λ refused id kept first more is allowe
     let means = g.D.Disk.means in
     let some : c.args.file.now ≡ Some c.in-Some.wal = sym c.take.ensures.value ∙ c.in-Some.is in
     let current = subst (λ (f : Option WalFile). HasFile told means c.args.disks.now id kept f) some has in
-    let size : length c.in-Ok.batch ≡ length (first ∷ more) = ap length c.in-Ok.ensures.batch ∙ length-map c.args.frames.now piece_of ∙ ap length is ∙ length-map (first ∷ more) frame_of in
     record {
       first = first;
       more = more;
@@ -38,13 +33,7 @@ returns-in-Err-write-clause-failed g c = λ refused id kept first more is allowe
       stands = some_stand told means c.write.new.disks id kept (first ∷ more) c.args.frames.now is
           (λ tells. c.in-Err-write.ensures.some_now tells (first_base id) (stored_of id kept) c.args.frames.now c.in-Ok.ensures.batch (subst (AreAllowed (stored_of id kept)) (sym is) allowed)
           (c.ready.ensures.current tells (first_base id) (stored_of id kept) (current tells)));
-      rose = pair_later means c.args.disks.now c.ready.new.disks c.write.new.disks c.ready.ensures.later c.in-Err-write.ensures.cause.failed;
-      cause = device_later means c.args.disks.now c.ready.new.disks c.write.new.disks c.ready.ensures.later c.in-Err-write.ensures.device;
-      struck = λ s. subst (λ (n : ℕ). IsShort (4 * n) (arm_of c.args.disks.now)) size (subst (IsShort (4 * length c.in-Ok.batch)) c.ready.ensures.arm (c.in-Err-write.ensures.struck s));
     }
-
-pub returns-in-Err-write-clause-rose : goal.returns-in-Err-write-clause-rose
-returns-in-Err-write-clause-rose g c = λ refused. pair_later g.D.Disk.means c.args.disks.now c.ready.new.disks c.write.new.disks c.ready.ensures.later c.in-Err-write.ensures.cause.failed
 
 pub returns-in-Ok-write-clause-moments : goal.returns-in-Ok-write-clause-moments
 returns-in-Ok-write-clause-moments g c = λ id kept items is allowed has.
@@ -71,3 +60,13 @@ returns-in-Err-clause-moments g c = λ id kept items is allowed has.
     let some : c.args.file.now ≡ Some c.in-Some.wal = sym c.take.ensures.value ∙ c.in-Some.is in
     none_since told means c.logs_stand_while_room_is_made.ensures c.args.disks.now c.ready.new.disks c.in-Some.wal id kept items
     (subst (λ (f : Option WalFile). HasFile told means c.args.disks.now id kept f) some has) c.ready.ensures.waits
+
+pub returns-in-Ok-write-clause-spent : goal.returns-in-Ok-write-clause-spent
+returns-in-Ok-write-clause-spent g c =
+    stored_spent g.D.Disk.means false c.args.disks.now c.ready.new.disks c.write.new.disks c.args.frames.now c.in-Ok.batch c.in-Ok.ensures.batch c.ready.ensures.spent c.in-Ok-write.ensures.spent
+
+pub returns-in-Err-write-clause-spent : goal.returns-in-Err-write-clause-spent
+returns-in-Err-write-clause-spent g c = (
+  λ _. stored_spent g.D.Disk.means true c.args.disks.now c.ready.new.disks c.write.new.disks c.args.frames.now c.in-Ok.batch c.in-Ok.ensures.batch c.ready.ensures.spent c.in-Err-write.ensures.spent,
+  λ none. absurd (cc),
+)

@@ -1,6 +1,6 @@
-use Rattle.std.proofs.Common.{◌≡◌, ◌*◌}
-use Rattle.rq_outside.specs.Pair.{other, disk_at, UsedCalls}
-use Rattle.rq_wal.specs.Later.{Later}
+use Rattle.std.proofs.Common.{false, ◌≡◌, ◌*◌}
+use Rattle.rq_outside.specs.Pair.{other, disk_at}
+use Rattle.rq_wal.specs.Spends.{Spends}
 use Rattle.rq_wal.proofs.Progress.{Progress}
 use Rattle.rq_wal.proofs.framing.write_frames.Given as goal
 
@@ -10,6 +10,5 @@ invariant-loop-piece g l =
     record {
       progress : Progress g.D.Disk.told (means (disk_at l.fn.disks l.file)) (means (disk_at l.disks l.file)) l.place l.end l.pieces l.piece-index;
       other : disk_at l.disks (other l.file) ≡ disk_at l.fn.disks (other l.file);
-      later : Later means l.fn.disks l.disks;
-      arm : UsedCalls (4 * l.piece-index) l.fn.disks.arm l.disks.arm;
+      spent : Spends means (4 * l.piece-index) false l.fn.disks l.disks;
     }

@@ -1,4 +1,4 @@
-use Rattle.std.proofs.Common.{List, ℕ, inl, ◌∙◌, ap}
+use Rattle.std.proofs.Common.{inl, ◌∙◌, ap}
 use Rattle.rq_outside.specs.declared.pair.FileNo.TheVariants.{One}
 use Rattle.rq_outside.specs.Pair.{disk_at}
 use Rattle.rq_wal.specs.Current.{IsBegun}

@@ -4,8 +4,9 @@ use Rattle.rq_outside.specs.Pair.{disk_at}
 use Rattle.rq_wal.specs.Current.{SomeImageGives}
 use Rattle.rq_wal.proofs.ImagesNow.{each_given, since_now}
 use Rattle.rq_wal.proofs.Settled.{gives_in, current_in, images_in, moments_in, later_in, opened_of, new_of, none_found, rest_in, unchanged_in, refused_so}
-use Rattle.rq_wal.proofs.Progress.{rose_later}
 use Rattle.rq_wal.proofs.Recovery.{always_kept}
+use Rattle.rq_wal.specs.Spends.{disk_failed}
+use Rattle.rq_wal.proofs.Spending.{within_then}
 use Rattle.rq_wal.proofs.opening.open.Goals as goal
 
 pub returns-in_err-found-clause-any_moment : goal.returns-in_err-found-clause-any_moment
@@ -78,8 +79,8 @@ returns-clause-unchanged g c told =
 pub returns-clause-refusals : goal.returns-clause-refusals
 returns-clause-refusals g c told = refused_so c.settle.result _ c.settle.ensures.refusals
 
-pub returns-clause-cause : goal.returns-clause-cause
-returns-clause-cause g c is = rose_later g.D.Disk.means c.args.disks.now c.find.new.disks c.settle.new.disks c.in_ok-found.ensures.later (c.settle.ensures.cause is)
+pub returns-clause-spent : goal.returns-clause-spent
+returns-clause-spent g c = within_then g.D.Disk.means 2 8 (disk_failed c.settle.result) c.args.disks.now c.find.new.disks c.settle.new.disks c.in_ok-found.ensures.spent c.settle.ensures.spent
 
 pub returns-clause-stored : goal.returns-clause-stored
 returns-clause-stored g c told shut shut' = c.settle.ensures.stored (none_found c.args.first.now _ _ c.in_ok-found.found (c.in_ok-found.ensures.found told) shut shut')

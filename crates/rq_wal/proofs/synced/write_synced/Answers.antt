@@ -2,6 +2,8 @@ use Rattle.std.proofs.Common.{length}
 use Rattle.rq_outside.specs.Disk.{Torn}
 use Rattle.rq_outside.specs.Pair.{disk_at}
 use Rattle.rq_wal.proofs.Moments.{changed, then_synced, torn_same}
+use Rattle.std.proofs.Common.{rules, arith}
+use Rattle.rq_wal.proofs.Spending.{passed_whole, passed_broken, then_broken}
 use Rattle.rq_wal.proofs.synced.write_synced.Goals as goal
 
 pub returns-in_err-sync-clause-any_moment : goal.returns-in_err-sync-clause-any_moment
@@ -19,3 +21,6 @@ returns-clause-any_moment g c told =
 pub returns-in_err-write_at-clause-any_moment : goal.returns-in_err-write_at-clause-any_moment
 returns-in_err-write_at-clause-any_moment g c told =
     changed (Torn c.args.at (length c.args.piece.now)) (torn_same _ _) _ _ (g.met.D.Disk.only_now told (disk_at c.args.disks.now c.args.file)) (c.requires.durable told) (c.write_at.ensures.images told) (c.write_at.ensures.time told)
+
+pub returns-in_err-sync-clause-spent : goal.returns-in_err-sync-clause-spent
+returns-in_err-sync-clause-spent g c = then_broken g.D.Disk.means 1 1 2 _ _ _ _ (search rules) (passed_whole g.D.Disk.means _ _ _ c.in_ok-write_at.ensures.cause c.in_ok-write_at.ensures.arm) (passed_broken g.D.Disk.means _ _ _ c.in_err-sync.ensures.cause c.in_err-sync.ensures.arm) (omega arith)

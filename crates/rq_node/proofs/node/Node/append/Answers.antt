@@ -23,7 +23,7 @@ returns-in-Err-clause-failed g c = λ refused.
     let has = subst (λ (k : Node). HasFile told means c.args.disks.now k.id (persistent_of k) c.args.self.now.file) (sym c.state.view_is) c.requires.open in
     let frames = taken_frames v c.args.number c.args.items c.in_ok-splice.splice c.in_ok-index.index c.args.command c.in_ok-splice.ensures.frame c.requires.spelled at in
     let allowed = taken_allowed v c.args.number c.args.items c.splice_of.ensures.term (subst (λ (k : ℕ). k < 2 ^ 64) at c.splice_of.ensures.index) (subst (λ (l : List ℕ). length l ≤ most_bytes) c.requires.spelled c.requires.fits) (subst AreBytes c.requires.spelled c.requires.bytes) in
-    subst (λ (k : Node). IsBroken told means c.args.disks.now c.store.new.disks k.id (persistent_of k) (taken_up k c.args.number c.args.items).records) c.state.view_is
+    subst (λ (k : Node). IsBroken told means c.store.new.disks k.id (persistent_of k) (taken_up k c.args.number c.args.items).records) c.state.view_is
     (c.store.ensures.failed (c.in-Err.is ∙ refused) v.id (persistent_of v) (Splice (length v.log + 1) (entry_in v (Execute c.args.items) ∷ [])) [] frames allowed has)
 
 pub returns-in-Err-clause-no_memory : goal.returns-in-Err-clause-no_memory

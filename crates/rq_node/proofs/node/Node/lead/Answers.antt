@@ -20,7 +20,7 @@ returns-in-Err-clause-failed g c = λ refused.
     let has = subst (λ (k : Node). HasFile told means c.args.disks.now k.id (persistent_of k) c.args.self.now.file) (sym c.state.view_is) c.requires.open in
     let frames = led_frames v c.vote_for-vote.result c.in_ok-splice.splice c.in_ok-index.index c.vote_for-vote.ensures.frame c.in_ok-splice.ensures.frame at in
     let allowed = led_allowed v c.vote_for-vote.ensures.id c.vote_for-vote.ensures.term (subst (λ (k : ℕ). k < 2 ^ 64) at c.splice_of.ensures.index) in
-    subst (λ (k : Node). IsBroken told means c.args.disks.now c.store.new.disks k.id (persistent_of k) (led k).records) c.state.view_is
+    subst (λ (k : Node). IsBroken told means c.store.new.disks k.id (persistent_of k) (led k).records) c.state.view_is
     (c.store.ensures.failed (c.in-Err.is ∙ refused) v.id (persistent_of v) (Vote (v.term + 1) (Some v.id)) (Splice (length v.log + 1) (record { term = v.term + 1; content = NoOp } ∷ []) ∷ []) frames allowed has)
 
 pub returns-in-Err-clause-no_memory : goal.returns-in-Err-clause-no_memory

@@ -9,9 +9,9 @@ use Rattle.rq_node.specs.Rules.{started}
 use Rattle.rq_outside.specs.Pair.{disk_at}
 use Rattle.rq_outside.specs.declared.pair.FileNo.TheVariants.{One, Two}
 use Rattle.rq_wal.specs.Reading.{pair_gives}
-use Rattle.rq_node.specs.Recovery.{Stands}
+use Rattle.rq_node.specs.Recovery.{disk_failed, Stands}
 use Rattle.rq_node.proofs.Openings.{current_base, taken, some_given, failed_boot, started_file, booted, ok_more, boot_refused, files_refused, refuses_more, state_refused}
-use Rattle.rq_node.proofs.FileSteps.{pair_later}
+use Rattle.rq_wal.proofs.Spending.{within_then}
 use Rattle.rq_node.proofs.node.Node.open.Goals as goal
 
 pub store_boot-requires-clause-open : goal.store_boot-requires-clause-open
@@ -86,7 +86,7 @@ returns-in-Ok-started_state-clause-gives g c = λ tells.
     ok_more c.store_boot.result (λ (n : Running). n.state ≡ state) (λ (n : Running). IsStart c.args.id reading n.state)
     (λ n same. record {
       kept = from.0;
-      is = c.in-Ok.ensures.gives tells ∙ ap (λ (s : Stored). Ok s) (from.2 base);
+      is = ◌∙◌ {a = reading} (c.in-Ok.ensures.gives tells) (ap (λ (s : Stored). Ok s) (from.2 base));
       readable = from.3;
       boots = from.4;
       node_is = same ∙ from.1;
@@ -104,5 +104,5 @@ returns-in-Err-started_state-clause-refusals g c = λ tells.
     let reading = pair_gives (first_base c.args.id) (means (disk_at c.args.disks.now One)).content (means (disk_at c.args.disks.now Two)).content in
     state_refused reading c.in-Ok.stored c.in-Err-started_state.error (c.in-Ok.ensures.gives tells) c.in-Err-started_state.ensures.wrong
 
-pub returns-in-Ok-started_state-clause-rose : goal.returns-in-Ok-started_state-clause-rose
-returns-in-Ok-started_state-clause-rose g c = λ refused. pair_later g.D.Disk.means c.args.disks.now c.open_files.new.disks c.store_boot.new.disks c.open_files.ensures.later (c.store_boot.ensures.rose refused)
+pub returns-in-Ok-started_state-clause-spent : goal.returns-in-Ok-started_state-clause-spent
+returns-in-Ok-started_state-clause-spent g c = within_then g.D.Disk.means 10 4 (disk_failed c.store_boot.result) c.args.disks.now c.open_files.new.disks c.store_boot.new.disks c.in-Ok.ensures.spent c.store_boot.ensures.spent
