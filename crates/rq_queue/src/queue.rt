@@ -115,6 +115,36 @@ impl<T: Drop> Queue<T> {
         move_front(&mut self.items, number, BATCH, &mut batch);
         Ok(batch)
     }
+
+    /// The item at this position, from 0, to be changed.
+    pub fn get_mut(&mut self, position: usize) -> Option<&mut T> {
+        self.items.get_mut(position)
+    }
+
+    /// Drops the first 128, or all.
+    pub fn drop_batch(&mut self)
+        ensures { self.new ≡ record { items = drop 128 self.old.items; last = self.old.last } }
+    {
+        drop_front(&mut self.items, BATCH);
+    }
+}
+
+/// Drops at most this many items from the start.
+fn drop_front<T: Drop>(from: &mut VecDeque<T>, count: usize)
+    ensures from { from.new.items ≡ drop count from.old.items }
+    ensures fewer { length from.new.items ≤ length from.old.items }
+    ensures capacity { deque_capacity from.new ≡ deque_capacity from.old }
+{
+    if count == 0 {
+        return;
+    }
+    match from.pop_front() {
+        Some(item) => {
+            drop(item);
+            drop_front(from, count - 1);
+        }
+        None => {}
+    }
 }
 
 /// Moves at most this many items from the start to the end of a list that has room for them, with numbers from this one on.
