@@ -92,10 +92,10 @@ module _ (first : List Member) (w : World) (i : NodeId) where
 server_is : (s t : NodeState) (x y : Extra) → s ≡ t → x ≡ y → ◌≡◌ {A = Server} (record { state = s; extra = x }) (record { state = t; extra = y })
 server_is s t x y e f = ap (λ (u : NodeState). record { state = u; extra = x }) e ∙ ap (λ (z : Extra). record { state = t; extra = z }) f
 
-extra_same : (extras : NodeId → Extra) (i : NodeId) (x : Extra) → set_extra extras i x i ≡ x
+pub extra_same : (extras : NodeId → Extra) (i : NodeId) (x : Extra) → set_extra extras i x i ≡ x
 extra_same extras i x = ap (λ (b : Bool). if b then x else extras i) (id_self i)
 
-extra_other : (extras : NodeId → Extra) (i : NodeId) (x : Extra) (j : NodeId) → j ≢ i → set_extra extras i x j ≡ extras j
+pub extra_other : (extras : NodeId → Extra) (i : NodeId) (x : Extra) (j : NodeId) → j ≢ i → set_extra extras i x j ≡ extras j
 extra_other extras i x j apart = ap (λ (b : Bool). if b then x else extras j) (id_false j i apart)
 
 pub each_act : EachActIsAtOne
@@ -108,6 +108,7 @@ each_act course c i a = record {
   first = refl;
   taken = refl;
   asks = refl;
+  shapes = refl;
   words = refl;
 }
 
@@ -171,6 +172,7 @@ each_start course c i kept rest is member = by course.fault
       first = refl;
       taken = refl;
       asks = refl;
+      shapes = refl;
       words = refl;
     }
     by Reading = record {
@@ -182,6 +184,7 @@ each_start course c i kept rest is member = by course.fault
       first = refl;
       taken = refl;
       asks = refl;
+      shapes = refl;
       words = refl;
     }
     by Storing = record {
@@ -193,6 +196,7 @@ each_start course c i kept rest is member = by course.fault
       first = refl;
       taken = refl;
       asks = refl;
+      shapes = refl;
       words = refl;
     }
 
@@ -206,5 +210,6 @@ each_stop c i n is = record {
   first = refl;
   taken = refl;
   asks = refl;
+  shapes = refl;
   words = refl;
 }

@@ -1,10 +1,15 @@
 -- Each step of a line is one of few kinds.
 use Rattle.std.proofs.Common.{◌≡◌, ℕ, zero, suc, if◌then◌else◌, Bool, true, false, Option, Some, None, List, [], ◌∷◌, refl, ap, ◌∙◌, subst}
-use Rattle.std.specs.Prelude.{slice_get, is_some, not, bytes_eq}
-use Rattle.rq_json.specs.Body.{texts_of}
+use Rattle.std.specs.Prelude.{slice_get, is_some, not, bytes_eq, nat_le, Result, Ok, Err}
+use Rattle.std.specs.Ordering.{nat_cmp, is_lt}
+use Rattle.std.specs.Cmp.Lexicographic.{slice_cmp}
 use Rattle.rq_history.specs.History.{NodeId}
 use Rattle.rq_raft.specs.Node.{Packet, one_of}
-use Rattle.rq_request.specs.declared.ask.Level.TheVariants as level
+use Rattle.rq_request.specs.declared.shape.Shape.{Shape}
+use Rattle.rq_asking.specs.declared.reading.Requested.{Requested}
+use Rattle.rq_asking.specs.declared.reading.Defect.{Defect}
+use Rattle.rq_asking.specs.Requested.{requested_of, status_of, text_of}
+use Rattle.rq_asking.specs.Asked.{op_at}
 use Rattle.rq_world.specs.declared.log_entry.LogEntry.{LogEntry}
 use Rattle.rq_world.specs.Promise.{number_of}
 use Rattle.rq_world.specs.World.{Act, Op, NodeState, Running, Down}
@@ -13,14 +18,18 @@ use Rattle.rq_play.specs.Line.{Action, Line}
 use Rattle.rq_play.specs.Line as lines
 use Rattle.rq_play.specs.Said.{Shown}
 use Rattle.rq_play.specs.Server.{Course, Fault, NoFault, Reading, Storing, opens, opening}
-use Rattle.rq_play.specs.Cluster.{Cluster, now, state_in, Spoken, acts, goes_if, named, starts, stops, arms, cuts, took, delivers, is_named, takes, is_cut_off, takes_lowest, lowest, is_none, can_name, starts_next, Prepared, Plan, when, list_of, asks_at, is_running, at_server, before_cluster, in_cluster, planned}
+use Rattle.rq_play.specs.Cluster.{Cluster, now, state_in, Spoken, acts, goes_if, named, starts, stops, arms, cuts, took, delivers, is_named, takes, is_cut_off, takes_lowest, lowest, is_none, can_name, starts_next, Prepared, Plan, when, asks_at, rejects, misses, puts_op, puts_request, asks_with, clocks, ticks_next, clock_step, in_order, put_id, is_running, at_server, before_cluster, in_cluster, planned}
+use Rattle.rq_play.specs.Asking.{op_in}
 use Rattle.rq_play.proofs.Common.{if_case, id_self}
 
 pub data IsBasic (c : Cluster) : Spoken → Type 0 where
   is_nothing : IsBasic c (c, [])
   is_shown : (i : NodeId) → one_of c.servers i ≡ true → IsBasic c (c, Shown i (state_in c i) ∷ [])
   is_act : (course : Course) (i : NodeId) (a : Act) → number_of a ≡ None → one_of c.servers i ≡ true → IsBasic c (acts course c i a)
-  is_ask : (course : Course) (i : NodeId) (p : Prepared) (op : Op) → one_of c.servers i ≡ true → IsBasic c (asks_at course c i p op)
+  is_ask : (course : Course) (i : NodeId) (left : List ℕ) (shape : Shape) (timeout : ℕ) (op : Op) → one_of c.servers i ≡ true → IsBasic c (asks_at course c i left shape timeout op)
+  is_rejected : (status : ℕ) (text : List ℕ) → IsBasic c (rejects c status text)
+  is_missed : (i : NodeId) → one_of c.servers i ≡ true → IsBasic c (misses c i)
+  is_clock : (moment : ℕ) → IsBasic c (clocks c moment)
   is_start : (course : Course) (i : NodeId) → one_of c.servers i ≡ true → IsBasic c (starts course c i (state_in c i))
   is_stop : (i : NodeId) → one_of c.servers i ≡ true → IsBasic c (stops c i (state_in c i))
   is_armed : (calls pick : ℕ) (i : NodeId) → IsBasic c (arms calls pick c i)
@@ -59,6 +68,57 @@ next_basic : (course : Course) (c : Cluster) (k : ℕ) (o : Option NodeId) → s
 next_basic course c k None e = IsBasic.is_nothing
 next_basic course c k (Some i) e = IsBasic.is_start course i (one_at c.servers k i e)
 
+-- ---- asks
+
+op_basic : (course : Course) (c : Cluster) (i : NodeId) → one_of c.servers i ≡ true → (r : Requested) (left : List ℕ) (o : Option Op) → IsBasic c (puts_op course c i r left o)
+op_basic course c i named r left (Some op) = IsBasic.is_ask course i left r.request.shape r.request.timeout op named
+op_basic course c i named r left None = IsBasic.is_missed i named
+
+request_basic : (course : Course) (c : Cluster) (i : NodeId) → one_of c.servers i ≡ true → (method target : List ℕ) (p : Prepared) (r : Result Requested Defect) → IsBasic c (puts_request course c i method target p r)
+request_basic course c i named method target p (Ok r) = op_basic course c i named r p.left (op_in (op_at r.request.path r.request p.items))
+request_basic course c i named method target p (Err defect) = IsBasic.is_rejected (status_of defect) (text_of method target defect)
+
+ask_basic : (course : Course) (c : Cluster) (i : NodeId) → one_of c.servers i ≡ true → (method target body : List ℕ) (p : Prepared) (s : NodeState) → IsBasic c (asks_with course c i method target body p s)
+ask_basic course c i named method target body p (Running n) = request_basic course c i named method target p (requested_of method target body)
+ask_basic course c i named method target body p (Down kept rest) = IsBasic.is_missed i named
+
+-- ---- ticks
+
+one_over : (i j : NodeId) (ids more : List NodeId) → (one_of ids j ≡ true → one_of more j ≡ true) → one_of (i ∷ ids) j ≡ true → one_of (i ∷ more) j ≡ true
+one_over i j ids more goes = by (bytes_eq j i)
+  where
+    by : (b : Bool) → (if b then true else one_of ids j) ≡ true → (if b then true else one_of more j) ≡ true
+    by true there = refl
+    by false there = goes there
+
+one_swapped : (i j k : NodeId) (ids : List NodeId) → one_of (i ∷ j ∷ ids) k ≡ true → one_of (j ∷ i ∷ ids) k ≡ true
+one_swapped i j k ids = by (bytes_eq k i) (bytes_eq k j)
+  where
+    by : (a b : Bool) → (if a then true else (if b then true else one_of ids k)) ≡ true → (if b then true else (if a then true else one_of ids k)) ≡ true
+    by true true there = refl
+    by true false there = refl
+    by false true there = refl
+    by false false there = there
+
+put_one : (i j : NodeId) (ids : List NodeId) → one_of (put_id i ids) j ≡ true → one_of (i ∷ ids) j ≡ true
+put_one i j [] there = there
+put_one i j (k ∷ ids) there = if_case (λ (l : List NodeId). one_of l j ≡ true → one_of (i ∷ k ∷ ids) j ≡ true) (is_lt (slice_cmp nat_cmp i k)) (i ∷ k ∷ ids) (k ∷ put_id i ids)
+    (λ e h. h)
+    (λ e h. one_swapped k i j ids (one_over k j (put_id i ids) (i ∷ ids) (put_one i j ids) h))
+    there
+
+pub ordered_one : (ids : List NodeId) (j : NodeId) → one_of (in_order ids) j ≡ true → one_of ids j ≡ true
+ordered_one [] j there = there
+ordered_one (i ∷ ids) j there = one_over i j (in_order ids) ids (ordered_one ids j) (put_one i j (in_order ids) there)
+
+tick_basic : (course : Course) (c : Cluster) (k : ℕ) (o : Option NodeId) → slice_get (in_order c.servers) k ≡ o → IsBasic c (ticks_next course c o)
+tick_basic course c k None e = IsBasic.is_nothing
+tick_basic course c k (Some i) e = IsBasic.is_act course i world.Tick refl (ordered_one c.servers i (one_at (in_order c.servers) k i e))
+
+clock_basic : (moment : ℕ) (course : Course) (k : ℕ) (c : Cluster) → IsBasic c (clock_step moment course k c)
+clock_basic moment course zero c = IsBasic.is_clock moment
+clock_basic moment course (suc k) c = tick_basic course c k (slice_get (in_order c.servers) k) refl
+
 -- ---- lines
 
 abbrev pub PlanIsBasic : Plan → Type 0
@@ -79,9 +139,10 @@ module _ (c : Cluster) (i : NodeId) (named : one_of c.servers i ≡ true) where
   action_basic : (p : Prepared) (action : Action) → BasicIf (at_server p c i action)
   action_basic p lines.Elect = λ course k d same. IsBasic.is_act course i world.Elect refl (still d same)
   action_basic p lines.Beat = λ course k d same. IsBasic.is_act course i world.Beat refl (still d same)
+  action_basic p lines.Flush = λ course k d same. IsBasic.is_act course i world.Flush refl (still d same)
   action_basic p lines.Apply = λ course k d same. IsBasic.is_act course i world.Apply refl (still d same)
-  action_basic p (lines.Execute body) = when_basic (is_some (texts_of body)) _ (λ course k d same. IsBasic.is_ask course i p (world.Write (list_of p.items) false) (still d same))
-  action_basic p (lines.Query body) = when_basic (is_some (texts_of body)) _ (λ course k d same. IsBasic.is_ask course i p (world.Read p.items level.None None) (still d same))
+  action_basic p lines.Compact = λ course k d same. IsBasic.is_act course i world.Compact refl (still d same)
+  action_basic p (lines.Ask method target body) = λ course k d same. ask_basic course d i (still d same) method target body p (state_in d i)
   action_basic p lines.Stop = when_basic (is_running (state_in c i)) _ (λ course k d same. IsBasic.is_stop i (still d same))
   action_basic p (lines.StopWithin calls pick) = when_basic (is_running (state_in c i)) _ (λ course k d same. IsBasic.is_armed calls pick i)
   action_basic p lines.Start = when_basic (not (is_running (state_in c i))) _ (λ course k d same. IsBasic.is_start course i (still d same))
@@ -95,6 +156,7 @@ before_basic c (lines.Cluster ids) = when_basic (can_name c ids) _ (λ course k 
 before_basic c (lines.At i action) = tt
 before_basic c (lines.Deliver number) = tt
 before_basic c (lines.Run times) = tt
+before_basic c (lines.Clock moment) = tt
 
 in_basic : (p : Prepared) (c : Cluster) (line : Line) → BasicIf (in_cluster p c line)
 in_basic p c lines.Skip = λ course k d same. IsBasic.is_nothing
@@ -103,6 +165,7 @@ in_basic p c (lines.At i action) = if_case BasicIf (is_named c i) (at_server p c
 in_basic p c (lines.Deliver zero) = tt
 in_basic p c (lines.Deliver (suc j)) = when_basic (is_some (slice_get (now c).sent j)) _ (λ course k d same. delivers_basic course d j (slice_get (now d).sent j))
 in_basic p c (lines.Run times) = λ course k d same. lowest_basic course d (lowest d.taken 0 (now d).sent)
+in_basic p c (lines.Clock moment) = when_basic (nat_le (now c).moment moment) _ (λ course k d same. clock_basic moment course k d)
 
 pub line_basic : (p : Prepared) (c : Cluster) (line : Line) (plan : Plan) → planned p c line ≡ Some plan → PlanIsBasic plan
 line_basic p c line plan is = subst BasicIf is (if_case BasicIf (is_none c.servers) (before_cluster c line) (in_cluster p c line) (λ e. before_basic c line) (λ e. in_basic p c line))
@@ -126,7 +189,10 @@ pub basic_servers : (c : Cluster) (w : Spoken) → IsBasic c w → w.0.servers �
 basic_servers c _ IsBasic.is_nothing = refl
 basic_servers c _ (IsBasic.is_shown i named) = refl
 basic_servers c _ (IsBasic.is_act course i a plain named) = refl
-basic_servers c _ (IsBasic.is_ask course i p op named) = refl
+basic_servers c _ (IsBasic.is_ask course i left shape timeout op named) = refl
+basic_servers c _ (IsBasic.is_rejected status text) = refl
+basic_servers c _ (IsBasic.is_missed i named) = refl
+basic_servers c _ (IsBasic.is_clock moment) = refl
 basic_servers c _ (IsBasic.is_start course i named) = start_servers course c i (state_in c i)
 basic_servers c _ (IsBasic.is_stop i named) = stop_servers c i (state_in c i)
 basic_servers c _ (IsBasic.is_armed calls pick i) = refl
@@ -151,7 +217,10 @@ pub basic_first : (c : Cluster) (w : Spoken) → IsBasic c w → w.0.first ≡ c
 basic_first c _ IsBasic.is_nothing = refl
 basic_first c _ (IsBasic.is_shown i named) = refl
 basic_first c _ (IsBasic.is_act course i a plain named) = refl
-basic_first c _ (IsBasic.is_ask course i p op named) = refl
+basic_first c _ (IsBasic.is_ask course i left shape timeout op named) = refl
+basic_first c _ (IsBasic.is_rejected status text) = refl
+basic_first c _ (IsBasic.is_missed i named) = refl
+basic_first c _ (IsBasic.is_clock moment) = refl
 basic_first c _ (IsBasic.is_start course i named) = start_first course c i (state_in c i)
 basic_first c _ (IsBasic.is_stop i named) = stop_first c i (state_in c i)
 basic_first c _ (IsBasic.is_armed calls pick i) = refl
@@ -175,9 +244,10 @@ when_begins c false plan begins = tt
 action_begins : (p : Prepared) (c : Cluster) (i : NodeId) (action : Action) → BeginsIf c (at_server p c i action)
 action_begins p c i lines.Elect = BeginsAt.is_here refl
 action_begins p c i lines.Beat = BeginsAt.is_here refl
+action_begins p c i lines.Flush = BeginsAt.is_here refl
 action_begins p c i lines.Apply = BeginsAt.is_here refl
-action_begins p c i (lines.Execute body) = when_begins c (is_some (texts_of body)) _ (λ e. BeginsAt.is_here refl)
-action_begins p c i (lines.Query body) = when_begins c (is_some (texts_of body)) _ (λ e. BeginsAt.is_here refl)
+action_begins p c i lines.Compact = BeginsAt.is_here refl
+action_begins p c i (lines.Ask method target body) = BeginsAt.is_here refl
 action_begins p c i lines.Stop = when_begins c (is_running (state_in c i)) _ (λ e. BeginsAt.is_here refl)
 action_begins p c i (lines.StopWithin calls pick) = when_begins c (is_running (state_in c i)) _ (λ e. BeginsAt.is_here refl)
 action_begins p c i lines.Start = when_begins c (not (is_running (state_in c i))) _ (λ e. BeginsAt.is_here refl)
@@ -191,6 +261,7 @@ before_begins c (lines.Cluster ids) none = when_begins c (can_name c ids) _ (λ 
 before_begins c (lines.At i action) none = tt
 before_begins c (lines.Deliver number) none = tt
 before_begins c (lines.Run times) none = tt
+before_begins c (lines.Clock moment) none = tt
 
 in_begins : (p : Prepared) (c : Cluster) (line : Line) → BeginsIf c (in_cluster p c line)
 in_begins p c lines.Skip = BeginsAt.is_here refl
@@ -199,6 +270,7 @@ in_begins p c (lines.At i action) = if_case (BeginsIf c) (is_named c i) (at_serv
 in_begins p c (lines.Deliver zero) = tt
 in_begins p c (lines.Deliver (suc j)) = when_begins c (is_some (slice_get (now c).sent j)) _ (λ e. BeginsAt.is_here refl)
 in_begins p c (lines.Run times) = BeginsAt.is_here refl
+in_begins p c (lines.Clock moment) = when_begins c (nat_le (now c).moment moment) _ (λ e. BeginsAt.is_here refl)
 
 pub line_starts : (p : Prepared) (c : Cluster) (line : Line) (plan : Plan) → planned p c line ≡ Some plan → BeginsAt c plan.start
 line_starts p c line plan is = subst (BeginsIf c) is (if_case (BeginsIf c) (is_none c.servers) (before_cluster c line) (in_cluster p c line) (λ e. before_begins c line e) (λ e. in_begins p c line))

@@ -1,4 +1,4 @@
--- Small scripts that are computed: three servers elect one, with and without one that is cut off.
+-- Small scripts that are computed: three servers elect one, with and without one that is cut off; an ask that is missed; the clock.
 use Rattle.std.proofs.Common.{◌≡◌, ℕ, List, [], ◌∷◌, Option, Some, None, Bool, true, false, refl}
 use Rattle.rq_history.specs.History.{NodeId}
 use Rattle.rq_raft.specs.declared.role.Role.{Role}
@@ -6,7 +6,10 @@ use Rattle.rq_raft.specs.declared.role.Role.TheVariants.{Follower, Leader}
 use Rattle.rq_world.specs.World.{NodeState, Running, Down}
 use Rattle.rq_world.specs.World as world
 use Rattle.rq_play.specs.Server.{Course, whole}
-use Rattle.rq_play.specs.Cluster.{Cluster, now, state_in, first_cluster, starts_all, acts, cuts, stops, starts, takes_lowest, lowest, ran}
+use Rattle.std.specs.Prelude.{codes, option_map, option_and_then}
+use Rattle.rq_play.specs.Said.{Missed}
+use Rattle.rq_play.specs.Runs.{unanswered}
+use Rattle.rq_play.specs.Cluster.{Cluster, now, state_in, first_cluster, starts_all, acts, cuts, stops, starts, takes_lowest, lowest, Prepared, Plan, asks_with, clocked, ran}
 
 abbrev a : NodeId
 a = 97 ∷ []
@@ -52,3 +55,29 @@ passed_over = refl
 -- a stop with nothing that waits, and a start
 again : role_of (state_in (starts whole (stops apart a (state_in apart a)).0 a (state_in (stops apart a (state_in apart a)).0 a)).0 a) ≡ Some Follower
 again = refl
+
+-- ---- asks
+
+nothing : Prepared
+nothing = record { items = []; left = [] }
+
+abbrev stopped : Cluster
+stopped = (stops opened b (state_in opened b)).0
+
+-- at a server whose node is down an ask is missed, also one that would be refused, and is unanswered
+missed : (asks_with whole stopped b (codes "GET") (codes "/x") [] nothing (state_in stopped b)).1 ≡ Missed 1 b ∷ []
+missed = refl
+
+unanswered_then : unanswered (asks_with whole stopped b (codes "GET") (codes "/x") [] nothing (state_in stopped b)).0 ≡ 1 ∷ []
+unanswered_then = refl
+
+-- ---- the clock: the moment moves, and never back
+
+abbrev clock : ℕ → Cluster → Option Cluster
+clock moment d = option_map (λ (plan : Plan). (ran plan.step (whole ∷ whole ∷ whole ∷ whole ∷ []) plan.start).0) (clocked d moment)
+
+later : option_map (λ (d : Cluster). (now d).moment) (clock 1000 opened) ≡ Some 1000
+later = refl
+
+never_back : option_map (λ (d : Cluster). (now d).moment) (option_and_then (clock 999) (clock 1000 opened)) ≡ None
+never_back = refl

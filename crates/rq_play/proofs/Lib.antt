@@ -2,8 +2,11 @@ mod Common
 mod Basics
 mod Acting
 mod Deciding
+mod Ruled
 mod Telling
 mod Numbering
+mod Beginning
+mod Founded
 mod Pending
 mod Truth
 mod Applying

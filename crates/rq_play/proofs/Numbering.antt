@@ -6,6 +6,7 @@ use Rattle.std.proofs.lemmas.List.{append-nil}
 use Rattle.rq_wire.specs.declared.config.Member.{Member}
 use Rattle.rq_history.specs.History.{NodeId}
 use Rattle.rq_request.specs.declared.say.Answer.{Answer}
+use Rattle.rq_request.specs.declared.shape.Shape.{Shape}
 use Rattle.rq_world.specs.Node.{Node, Turn}
 use Rattle.rq_world.specs.World.{NodeState, Running, Down, Act, Note, Op, Event, Asked, Answered, place_of}
 use Rattle.rq_world.specs.World as world
@@ -16,34 +17,65 @@ use Rattle.rq_play.specs.Line.{Line}
 use Rattle.rq_play.specs.Said.{Said, said_notes, notes_of, gave}
 use Rattle.rq_play.specs.Said as said
 use Rattle.rq_play.specs.Server.{Extra, Course, Fault, NoFault, Reading, Storing, Fate, Done, Struck, Failed, fate, puts, ended, moves, event_by, event_of, opens, opening}
-use Rattle.rq_play.specs.Cluster.{Cluster, now, state_in, Spoken, rule_of, moved_in, acts, goes_if, starts, stops, took, is_first, first_cluster, asks_at, default_timeout, is_allowed, Plan, ran, named}
+use Rattle.rq_play.specs.Cluster.{Cluster, now, state_in, Spoken, rule_of, moved_in, acts, goes_if, starts, stops, took, asks_at, Plan, ran}
 use Rattle.rq_play.specs.Runs.{Runs, Steps}
 use Rattle.rq_play.specs.Book.{AreNumbered}
-use Rattle.rq_play.proofs.Common.{and_true}
 use Rattle.rq_play.proofs.Basics.{IsBasic, PlanIsBasic, basic_servers, line_basic, BeginsAt, line_starts}
-use Rattle.rq_play.proofs.Telling.{Tells, basic_tells, notes_both}
+use Rattle.rq_play.proofs.Telling.{Tells, basic_tells}
 
--- ---- notes
+-- ---- what is said
 
-numbered_both : (x y z : ℕ) (a b : List Note) → AreNumbered x a y → AreNumbered y b z → AreNumbered x (a ++ b) z
+numbered_both : (x y z : ℕ) (a b : List Said) → AreNumbered x a y → AreNumbered y b z → AreNumbered x (a ++ b) z
 numbered_both x y z [] b first second = subst (λ (k : ℕ). AreNumbered k b z) (sym first) second
-numbered_both x y z (Asked number id op ∷ a) b (is, first) second = (is, numbered_both number y z a b first second)
-numbered_both x y z (Answered number say place ∷ a) b first second = numbered_both x y z a b first second
+numbered_both x y z (said.Put number id op ∷ a) b (is, first) second = (is, numbered_both number y z a b first second)
+numbered_both x y z (said.Rejected number status text ∷ a) b (is, first) second = (is, numbered_both number y z a b first second)
+numbered_both x y z (said.Missed number id ∷ a) b (is, first) second = (is, numbered_both number y z a b first second)
+numbered_both x y z (said.Gave number say place ∷ a) b first second = numbered_both x y z a b first second
+numbered_both x y z (said.Up id node ∷ a) b first second = numbered_both x y z a b first second
+numbered_both x y z (said.Down id ∷ a) b first second = numbered_both x y z a b first second
+numbered_both x y z (said.Shown id state ∷ a) b first second = numbered_both x y z a b first second
 
 -- no ask is put among these
 abbrev AreSilent : List Said → Type 0
-AreSilent talk = (n : ℕ) → AreNumbered n (notes_of talk) n
+AreSilent talk = (n : ℕ) → AreNumbered n talk n
 
 gave_silent : (place : ℕ) (answers : List Answer) → AreSilent (gave place answers)
 gave_silent place [] n = refl
 gave_silent place (a ∷ answers) n = gave_silent place answers n
 
+-- ---- the book: numbers rise, from above the first of these up to the second
+
+abbrev pub AreRising : ℕ → List Note → ℕ → Type 0
+AreRising last [] most = last ≤ most
+AreRising last (Asked number id op ∷ notes) most = (last < number) × AreRising number notes most
+AreRising last (Answered number say place ∷ notes) most = AreRising last notes most
+
+rising_from : (x y z : ℕ) (notes : List Note) → x ≤ y → AreRising y notes z → AreRising x notes z
+rising_from x y z [] le rise = omega (arith, le, rise)
+rising_from x y z (Asked number id op ∷ notes) le (lt, rise) = (omega (arith, le, lt), rise)
+rising_from x y z (Answered number say place ∷ notes) le rise = rising_from x y z notes le rise
+
+rising_both : (x y z : ℕ) (a b : List Note) → AreRising x a y → AreRising y b z → AreRising x (a ++ b) z
+rising_both x y z [] b first second = rising_from x y z b first second
+rising_both x y z (Asked number id op ∷ a) b (is, first) second = (is, rising_both number y z a b first second)
+rising_both x y z (Answered number say place ∷ a) b first second = rising_both x y z a b first second
+
+numbered_rise : (x y : ℕ) (talk : List Said) → AreNumbered x talk y → AreRising x (notes_of talk) y
+numbered_rise x y [] is = omega (arith, is)
+numbered_rise x y (said.Put number id op ∷ talk) (is, more) = (omega (arith, is), numbered_rise number y talk more)
+numbered_rise x y (said.Rejected number status text ∷ talk) (is, more) = rising_from x number y (notes_of talk) (omega (arith, is)) (numbered_rise number y talk more)
+numbered_rise x y (said.Missed number id ∷ talk) (is, more) = rising_from x number y (notes_of talk) (omega (arith, is)) (numbered_rise number y talk more)
+numbered_rise x y (said.Gave number say place ∷ talk) more = numbered_rise x y talk more
+numbered_rise x y (said.Up id node ∷ talk) more = numbered_rise x y talk more
+numbered_rise x y (said.Down id ∷ talk) more = numbered_rise x y talk more
+numbered_rise x y (said.Shown id state ∷ talk) more = numbered_rise x y talk more
+
 -- numbers above the last weren't put
-none_above : (last most number : ℕ) (book : List Note) → AreNumbered last book most → most < number → op_of book number ≡ None
+none_above : (last most number : ℕ) (book : List Note) → AreRising last book most → most < number → op_of book number ≡ None
 none_above last most number [] is above = refl
 none_above last most number (Asked k id op ∷ book) (is, rest) above = by (nat_eq k number) refl (none_above k most number book rest above)
   where
-    below : (l m : ℕ) (notes : List Note) → AreNumbered l notes m → l ≤ m
+    below : (l m : ℕ) (notes : List Note) → AreRising l notes m → l ≤ m
     below l m [] e = omega (arith, e)
     below l m (Asked j id op ∷ notes) (e, more) = let b = below j m notes more in omega (arith, e, b)
     below l m (Answered j say place ∷ notes) more = below l m notes more
@@ -54,7 +86,7 @@ none_above last most number (Asked k id op ∷ book) (is, rest) above = by (nat_
 none_above last most number (Answered k say place ∷ book) is above = none_above last most number book is above
 
 -- a number that was put is above those before it
-put_above : (last most number k : ℕ) (id : NodeId) (op : Op) (book : List Note) → AreNumbered last book most → slice_get book k ≡ Some (Asked number id op) → last < number
+put_above : (last most number k : ℕ) (id : NodeId) (op : Op) (book : List Note) → AreRising last book most → slice_get book k ≡ Some (Asked number id op) → last < number
 put_above last most number k id op [] is at = absurd (cc)
 put_above last most number zero id op (Asked j home o ∷ book) (is, rest) at = let same : j ≡ number = ap number_in at in omega (arith, is, same)
   where
@@ -67,7 +99,7 @@ put_above last most number zero id op (Answered j say place ∷ book) is at = ab
 put_above last most number (suc k) id op (Answered j say place ∷ book) is at = put_above last most number k id op book is at
 
 -- what an ask was put for is what its number is for
-put_for : (last most number k : ℕ) (id : NodeId) (op : Op) (book : List Note) → AreNumbered last book most → slice_get book k ≡ Some (Asked number id op) → op_of book number ≡ Some op
+put_for : (last most number k : ℕ) (id : NodeId) (op : Op) (book : List Note) → AreRising last book most → slice_get book k ≡ Some (Asked number id op) → op_of book number ≡ Some op
 put_for last most number k id op [] is at = absurd (cc)
 put_for last most number zero id op (Asked j home o ∷ book) is at = let same : j ≡ number = ap number_in at in let equal : nat_eq j number ≡ true = grind (arith, nat_tests, same) in ap (λ (b : Bool). if b then Some o else op_of book number) equal ∙ ap op_in at
   where
@@ -88,9 +120,9 @@ put_for last most number zero id op (Answered j say place ∷ book) is at = absu
 put_for last most number (suc k) id op (Answered j say place ∷ book) is at = put_for last most number k id op book is at
 
 -- an acknowledged write has its place
-pub have_places : (c : Cluster) → AreNumbered 0 (now c).book c.asks → WritesHavePlaces c.first c.run → HavePlaces c
-have_places c numbered places put answered index a =
-    places.placed answered a.number index a.say a.is_answered (subst (λ (o : Option Op). IsAcknowledged o a.say) (sym (put_for 0 c.asks a.number put a.id a.op (now c).book numbered a.is_put)) a.acknowledges)
+pub have_places : (c : Cluster) → AreRising 0 (now c).book c.asks → WritesHavePlaces c.first c.run → HavePlaces c
+have_places c rising places put answered index a =
+    places.placed answered a.number index a.say a.is_answered (subst (λ (o : Option Op). IsAcknowledged o a.say) (sym (put_for 0 c.asks a.number put a.id a.op (now c).book rising a.is_put)) a.acknowledges)
 
 -- ---- acts
 
@@ -133,17 +165,17 @@ puts_none i world.Idle e = refl
 -- ---- steps
 
 pub record IsCounted (c : Cluster) : Type 0 where
-  pub numbered : AreNumbered 0 (now c).book c.asks
+  pub rising : AreRising 0 (now c).book c.asks
   pub apart : IsNumbered c.first c.run
 
 -- what is said counts on, and the run goes on without two asks of one number
 record Counts (c : Cluster) (w : Spoken) : Type 0 where
-  pub on : AreNumbered c.asks (notes_of w.1) w.0.asks
+  pub on : AreNumbered c.asks w.1 w.0.asks
   pub apart : IsCounted c → IsNumbered w.0.first w.0.run
 
 counted_on : (c : Cluster) (w : Spoken) → IsCounted c → Tells c w → Counts c w → IsCounted w.0
 counted_on c w counted tells counts = record {
-  numbered = subst (λ (l : List Note). AreNumbered 0 l w.0.asks) (sym tells) (numbered_both 0 c.asks w.0.asks (now c).book (notes_of w.1) counted.numbered counts.on);
+  rising = subst (λ (l : List Note). AreRising 0 l w.0.asks) (sym tells) (rising_both 0 c.asks w.0.asks (now c).book (notes_of w.1) counted.rising (numbered_rise c.asks w.0.asks w.1 counts.on));
   apart = counts.apart counted;
 }
 
@@ -151,22 +183,22 @@ plain_counts : (course : Course) (c : Cluster) (i : NodeId) (a : Act) → number
 plain_counts course c i a plain =
     let t = talks c.first course i a (rule_of c a) (c.extras i) (state_in c i) in
     record {
-      on = subst (λ (l : List Said). AreNumbered c.asks (notes_of l) c.asks) (sym (t.is ∙ ap (λ (l : List Said). l ++ t.more) (puts_none i a plain))) (t.silent c.asks);
+      on = subst (λ (l : List Said). AreNumbered c.asks l c.asks) (sym (t.is ∙ ap (λ (l : List Said). l ++ t.more) (puts_none i a plain))) (t.silent c.asks);
       apart = λ counted. (counted.apart, subst (IsNew (now c).book) (sym (asked_of c.first course i a (rule_of c a) (c.extras i) (state_in c i) ∙ plain)) tt);
     }
 
-ask_counts : (course : Course) (c : Cluster) (i : NodeId) (left : List ℕ) (op : Op) → Counts c (acts course (record c { asks = c.asks + 1; words = left }) i (world.Ask (c.asks + 1) default_timeout op))
-ask_counts course c i left op =
-    let a = world.Ask (c.asks + 1) default_timeout op in
+ask_counts : (course : Course) (c : Cluster) (i : NodeId) (left : List ℕ) (shape : Shape) (timeout : ℕ) (op : Op) → Counts c (asks_at course c i left shape timeout op)
+ask_counts course c i left shape timeout op =
+    let a = world.Ask (c.asks + 1) timeout op in
     let t = talks c.first course i a (rule_of c a) (c.extras i) (state_in c i) in
     record {
-      on = subst (λ (l : List Said). AreNumbered c.asks (notes_of l) (c.asks + 1)) (sym t.is) (refl, t.silent (c.asks + 1));
-      apart = λ counted. (counted.apart, subst (IsNew (now c).book) (sym (asked_of c.first course i a (rule_of c a) (c.extras i) (state_in c i))) (none_above 0 c.asks (c.asks + 1) (now c).book counted.numbered (omega arith)));
+      on = subst (λ (l : List Said). AreNumbered c.asks l (c.asks + 1)) (sym t.is) (refl, t.silent (c.asks + 1));
+      apart = λ counted. (counted.apart, subst (IsNew (now c).book) (sym (asked_of c.first course i a (rule_of c a) (c.extras i) (state_in c i))) (none_above 0 c.asks (c.asks + 1) (now c).book counted.rising (omega arith)));
     }
 
 same_counts : (c : Cluster) (d : Cluster) (talk : List Said) → AreSilent talk → d.asks ≡ c.asks → d.first ≡ c.first → d.run ≡ c.run → Counts c (d, talk)
 same_counts c d talk silent asks first run = record {
-  on = subst (AreNumbered c.asks (notes_of talk)) (sym asks) (silent c.asks);
+  on = subst (AreNumbered c.asks talk) (sym asks) (silent c.asks);
   apart = λ counted. subst (λ (r : world.Run). IsNumbered d.first r) (sym run) (subst (λ (f : List Member). IsNumbered f c.run) (sym first) counted.apart);
 }
 
@@ -187,7 +219,10 @@ basic_counts : (c : Cluster) (w : Spoken) → IsBasic c w → Counts c w
 basic_counts c _ IsBasic.is_nothing = same_counts c c [] (λ n. refl) refl refl refl
 basic_counts c _ (IsBasic.is_shown i named) = same_counts c c (said.Shown i (state_in c i) ∷ []) (λ n. refl) refl refl refl
 basic_counts c _ (IsBasic.is_act course i a plain named) = plain_counts course c i a plain
-basic_counts c _ (IsBasic.is_ask course i p op named) = ask_counts course c i p.left op
+basic_counts c _ (IsBasic.is_ask course i left shape timeout op named) = ask_counts course c i left shape timeout op
+basic_counts c _ (IsBasic.is_rejected status text) = record { on = (refl, refl); apart = λ counted. counted.apart }
+basic_counts c _ (IsBasic.is_missed i named) = record { on = (refl, refl); apart = λ counted. counted.apart }
+basic_counts c _ (IsBasic.is_clock moment) = record { on = refl; apart = λ counted. (counted.apart, tt) }
 basic_counts c _ (IsBasic.is_start course i named) = start_counts course c i (state_in c i)
 basic_counts c _ (IsBasic.is_stop i named) = stop_counts c i (state_in c i)
 basic_counts c _ (IsBasic.is_armed calls pick i) = record { on = refl; apart = λ counted. counted.apart }
@@ -195,33 +230,56 @@ basic_counts c _ (IsBasic.is_cut cut i) = record { on = refl; apart = λ counted
 basic_counts c _ (IsBasic.is_taken k) = record { on = refl; apart = λ counted. counted.apart }
 basic_counts c _ (IsBasic.is_delivered course k i named) =
     let p = plain_counts course (took c k) i (world.Deliver k) refl in
-    record { on = p.on; apart = λ counted. p.apart (record { numbered = counted.numbered; apart = counted.apart }) }
+    record { on = p.on; apart = λ counted. p.apart (record { rising = counted.rising; apart = counted.apart }) }
 
 -- ---- lines and runs
 
-ran_counted : (plan : Plan) → PlanIsBasic plan → IsCounted plan.start → (courses : List Course) → ((ran plan.step courses plan.start).0.servers ≡ plan.start.servers) × IsCounted (ran plan.step courses plan.start).0
-ran_counted plan basic counted [] = (refl, counted)
+record RanCounted (start : Cluster) (w : Spoken) : Type 0 where
+  pub servers : w.0.servers ≡ start.servers
+  pub counted : IsCounted w.0
+  pub on : AreNumbered start.asks w.1 w.0.asks
+
+ran_counted : (plan : Plan) → PlanIsBasic plan → IsCounted plan.start → (courses : List Course) → RanCounted plan.start (ran plan.step courses plan.start)
+ran_counted plan basic counted [] = record { servers = refl; counted = counted; on = refl }
 ran_counted plan basic counted (course ∷ earlier) =
     let w = ran plan.step earlier plan.start in
     let t = plan.step course (length earlier) w.0 in
     let so_far = ran_counted plan basic counted earlier in
-    let b = basic course (length earlier) w.0 so_far.0 in
-    (basic_servers w.0 t b ∙ so_far.0, counted_on w.0 t so_far.1 (basic_tells w.0 t b) (basic_counts w.0 t b))
+    let b = basic course (length earlier) w.0 so_far.servers in
+    let counts = basic_counts w.0 t b in
+    record {
+      servers = basic_servers w.0 t b ∙ so_far.servers;
+      counted = counted_on w.0 t so_far.counted (basic_tells w.0 t b) counts;
+      on = numbered_both plan.start.asks w.0.asks t.0.asks w.1 t.1 so_far.on counts.on;
+    }
 
-begins_counted : (c start : Cluster) → IsCounted c → BeginsAt c start → IsCounted start
-begins_counted c start counted (BeginsAt.is_here same) = subst IsCounted (sym same) counted
-begins_counted c start counted (BeginsAt.names ids none can same) = subst IsCounted (sym same) (record { numbered = nothing c.run (and_true (is_allowed ids) (is_first c.run) can).1 counted.numbered; apart = tt })
-  where
-    nothing : (run : world.Run) → is_first run ≡ true → AreNumbered 0 (world.world c.first run).book c.asks → 0 ≡ c.asks
-    nothing world.First e h = h
-    nothing (world.Then run event) e h = absurd (cc)
+record BeginsCounted (c start : Cluster) : Type 0 where
+  pub counted : IsCounted start
+  pub asks : start.asks ≡ c.asks
 
-pub step_counted : (c : Cluster) (line : Line) (talk : List Said) (next : Cluster) → Steps c line talk next → IsCounted c → IsCounted next
-step_counted c line talk next s counted =
+begins_counted : (c start : Cluster) → IsCounted c → BeginsAt c start → BeginsCounted c start
+begins_counted c start counted (BeginsAt.is_here same) = record { counted = subst IsCounted (sym same) counted; asks = ap (λ (d : Cluster). d.asks) same }
+begins_counted c start counted (BeginsAt.names ids none can same) = record { counted = subst IsCounted (sym same) (record { rising = omega arith; apart = tt }); asks = ap (λ (d : Cluster). d.asks) same }
+
+record StepCounts (c : Cluster) (talk : List Said) (next : Cluster) : Type 0 where
+  pub counted : IsCounted next
+  pub on : AreNumbered c.asks talk next.asks
+
+step_counts : (c : Cluster) (line : Line) (talk : List Said) (next : Cluster) → Steps c line talk next → IsCounted c → StepCounts c talk next
+step_counts c line talk next s counted =
     let w = s.way in
     let start = begins_counted c w.plan.start counted (line_starts w.prepared c line w.plan w.stands) in
-    subst (λ (x : Spoken). IsCounted x.0) s.does (ran_counted w.plan (line_basic w.prepared c line w.plan w.stands) start w.courses).1
+    let r = ran_counted w.plan (line_basic w.prepared c line w.plan w.stands) start.counted w.courses in
+    subst (λ (x : Spoken). StepCounts c x.1 x.0) s.does (record { counted = r.counted; on = subst (λ (n : ℕ). AreNumbered n (ran w.plan.step w.courses w.plan.start).1 (ran w.plan.step w.courses w.plan.start).0.asks) start.asks r.on })
+
+pub step_counted : (c : Cluster) (line : Line) (talk : List Said) (next : Cluster) → Steps c line talk next → IsCounted c → IsCounted next
+step_counted c line talk next s counted = (step_counts c line talk next s counted).counted
 
 pub runs_are_counted : (words : List ℕ) (ls : List Line) (talk : List Said) (c : Cluster) → Runs words ls talk c → IsCounted c
-runs_are_counted words _ _ _ Runs.start = record { numbered = refl; apart = tt }
+runs_are_counted words _ _ _ Runs.start = record { rising = omega arith; apart = tt }
 runs_are_counted words _ _ _ (Runs.line {said = before} {c = from} l more next runs steps) = step_counted from l more next steps (runs_are_counted words _ before from runs)
+
+pub runs_are_numbered : (words : List ℕ) (ls : List Line) (talk : List Said) (c : Cluster) → Runs words ls talk c → AreNumbered 0 talk c.asks
+runs_are_numbered words _ _ _ Runs.start = refl
+runs_are_numbered words _ _ _ (Runs.line {said = before} {c = from} l more next runs steps) =
+    numbered_both 0 from.asks next.asks before more (runs_are_numbered words _ before from runs) (step_counts from l more next steps (runs_are_counted words _ before from runs)).on

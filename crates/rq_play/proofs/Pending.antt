@@ -1,29 +1,30 @@
 -- What is unanswered is what the book has open.
 use Rattle.std.proofs.Common.{◌≡◌, ◌≢◌, ℕ, suc, ◌+◌, ◌&&◌, nat_eq, if◌then◌else◌, Bool, true, false, Some, List, [], ◌∷◌, ◌++◌, length, refl, sym, ap, ◌∙◌, subst, arith}
-use Rattle.std.specs.Prelude.{bytes_eq, not, map, nat_le}
-use Rattle.std.specs.Ordering.{nat_cmp, is_lt}
-use Rattle.std.specs.Cmp.Lexicographic.{slice_cmp}
+use Rattle.std.specs.Prelude.{bytes_eq, not, map}
+use Rattle.std.proofs.lemmas.List.{append-nil, append_assoc}
 use Rattle.rq_wire.specs.declared.config.Member.{Member}
 use Rattle.rq_history.specs.History.{NodeId}
 use Rattle.rq_raft.specs.Node.{StoredRecord, Persistent, one_of}
 use Rattle.rq_request.specs.declared.say.Answer.{Answer}
+use Rattle.rq_request.specs.declared.shape.Shape.{Shape}
 use Rattle.rq_world.specs.declared.log_entry.LogEntry.{LogEntry}
 use Rattle.rq_world.specs.Node.{Node, Turn, members}
 use Rattle.rq_world.specs.Asks.{times, all_waiting, asked_numbers, EachTurnKeepsAsks}
-use Rattle.rq_world.specs.World.{NodeState, Running, Down, Act, Note, Asked, Answered, place_of}
+use Rattle.rq_world.specs.World.{NodeState, Running, Down, Act, place_of}
 use Rattle.rq_world.specs.World as world
 use Rattle.rq_play.specs.Line.{Line}
-use Rattle.rq_play.specs.Said.{Said, notes_of, gave}
+use Rattle.rq_play.specs.Said.{Said, gave}
 use Rattle.rq_play.specs.Said as said
 use Rattle.rq_play.specs.Server.{Extra, Server, Course, Fault, NoFault, Reading, Storing, Fate, Done, Struck, Failed, fate, puts, ended, moves, opens}
-use Rattle.rq_play.specs.Cluster.{Cluster, now, state_in, server_in, Spoken, keeps_extra, moved_in, acts, starts, stops, took, is_first, is_allowed, are_apart, member_of, put_id, in_order, named, asks_at, default_timeout, Plan, ran}
+use Rattle.rq_play.specs.Cluster.{Cluster, now, state_in, server_in, Spoken, keeps_extra, moved_in, acts, starts, stops, took, are_apart, named, counts_ask, asks_at, loses, misses, Plan, ran}
 use Rattle.rq_play.specs.Runs.{Runs, Steps, waiting_at, unanswered, unanswered_at}
-use Rattle.rq_play.specs.Book.{put_in, answered_in}
+use Rattle.rq_play.specs.Book.{asked_by, answered_by, all_asked, all_answered}
 use Rattle.rq_play.specs.Promise.{IsOpen}
 use Rattle.rq_play.proofs.Common.{if_case, id_true, id_self, and_true}
-use Rattle.rq_play.proofs.Acting.{each_act, each_start, each_stop}
-use Rattle.rq_play.proofs.Basics.{IsBasic, PlanIsBasic, basic_servers, basic_first, line_basic, BeginsAt, line_starts}
-use Rattle.rq_play.proofs.Telling.{basic_tells, notes_both}
+use Rattle.rq_play.proofs.Acting.{each_act, each_start, each_stop, extra_same, extra_other}
+use Rattle.rq_play.proofs.Basics.{IsBasic, PlanIsBasic, basic_servers, line_basic, BeginsAt, line_starts}
+use Rattle.rq_play.proofs.Beginning.{nothing_said}
+use Rattle.rq_play.proofs.Founded.{IsFounded, founded_on, begins_founded, runs_are_founded}
 
 -- ---- counts
 
@@ -36,48 +37,34 @@ module _ (x : ℕ) where
       by true h = omega (arith, h)
       by false h = h
 
-  put_both : (a b : List Note) → times x (put_in (a ++ b)) ≡ times x (put_in a) + times x (put_in b)
-  put_both a b = ap (times x) (both a b) ∙ times_both (put_in a) (put_in b)
-    where
-      both : (a b : List Note) → put_in (a ++ b) ≡ put_in a ++ put_in b
-      both [] b = refl
-      both (Asked number id op ∷ a) b = ap (λ (l : List ℕ). number ∷ l) (both a b)
-      both (Answered number say place ∷ a) b = both a b
+  abbrev pub asks_in : List Said → ℕ
+  asks_in talk = times x (all_asked talk)
 
-  answered_both : (a b : List Note) → times x (answered_in (a ++ b)) ≡ times x (answered_in a) + times x (answered_in b)
-  answered_both a b = ap (times x) (both a b) ∙ times_both (answered_in a) (answered_in b)
-    where
-      both : (a b : List Note) → answered_in (a ++ b) ≡ answered_in a ++ answered_in b
-      both [] b = refl
-      both (Asked number id op ∷ a) b = both a b
-      both (Answered number say place ∷ a) b = ap (λ (l : List ℕ). number ∷ l) (both a b)
+  abbrev pub answers_in : List Said → ℕ
+  answers_in talk = times x (all_answered talk)
 
-  abbrev put_by : List Said → ℕ
-  put_by talk = times x (put_in (notes_of talk))
+  asks_both : (a b : List Said) → asks_in (a ++ b) ≡ asks_in a + asks_in b
+  asks_both [] b = omega arith
+  asks_both (s ∷ a) b = let h = asks_both a b in let p = times_both (asked_by s) (all_asked (a ++ b)) in let q = times_both (asked_by s) (all_asked a) in omega (arith, h, p, q)
 
-  abbrev answered_by : List Said → ℕ
-  answered_by talk = times x (answered_in (notes_of talk))
+  answers_both : (a b : List Said) → answers_in (a ++ b) ≡ answers_in a + answers_in b
+  answers_both [] b = omega arith
+  answers_both (s ∷ a) b = let h = answers_both a b in let p = times_both (answered_by s) (all_answered (a ++ b)) in let q = times_both (answered_by s) (all_answered a) in omega (arith, h, p, q)
 
-  put_by_both : (a b : List Said) → put_by (a ++ b) ≡ put_by a + put_by b
-  put_by_both a b = ap (λ (l : List Note). times x (put_in l)) (notes_both a b) ∙ put_both (notes_of a) (notes_of b)
-
-  answered_by_both : (a b : List Said) → answered_by (a ++ b) ≡ answered_by a + answered_by b
-  answered_by_both a b = ap (λ (l : List Note). times x (answered_in l)) (notes_both a b) ∙ answered_both (notes_of a) (notes_of b)
-
-  gave_put : (place : ℕ) (answers : List Answer) → put_by (gave place answers) ≡ 0
+  gave_put : (place : ℕ) (answers : List Answer) → asks_in (gave place answers) ≡ 0
   gave_put place [] = refl
   gave_put place (a ∷ answers) = gave_put place answers
 
-  gave_answered : (place : ℕ) (answers : List Answer) → answered_by (gave place answers) ≡ times x (map (λ (given : Answer). given.number) answers)
+  gave_answered : (place : ℕ) (answers : List Answer) → answers_in (gave place answers) ≡ times x (map (λ (given : Answer). given.number) answers)
   gave_answered place [] = refl
   gave_answered place (a ∷ answers) = by (nat_eq a.number x) (gave_answered place answers)
     where
-      by : (t : Bool) → answered_by (gave place answers) ≡ times x (map (λ (given : Answer). given.number) answers)
-          → (if t then suc (answered_by (gave place answers)) else answered_by (gave place answers)) ≡ (if t then suc (times x (map (λ (given : Answer). given.number) answers)) else times x (map (λ (given : Answer). given.number) answers))
+      by : (t : Bool) → answers_in (gave place answers) ≡ times x (map (λ (given : Answer). given.number) answers)
+          → (if t then suc (answers_in (gave place answers)) else answers_in (gave place answers)) ≡ (if t then suc (times x (map (λ (given : Answer). given.number) answers)) else times x (map (λ (given : Answer). given.number) answers))
       by true h = ap suc h
       by false h = h
 
-  puts_put : (i : NodeId) (a : Act) → put_by (puts i a) ≡ times x (asked_numbers a)
+  puts_put : (i : NodeId) (a : Act) → asks_in (puts i a) ≡ times x (asked_numbers a)
   puts_put i (world.Ask number timeout op) = refl
   puts_put i world.Elect = refl
   puts_put i world.Beat = refl
@@ -88,7 +75,7 @@ module _ (x : ℕ) where
   puts_put i world.Tick = refl
   puts_put i world.Idle = refl
 
-  puts_answered : (i : NodeId) (a : Act) → answered_by (puts i a) ≡ 0
+  puts_answered : (i : NodeId) (a : Act) → answers_in (puts i a) ≡ 0
   puts_answered i (world.Ask number timeout op) = refl
   puts_answered i world.Elect = refl
   puts_answered i world.Beat = refl
@@ -111,23 +98,23 @@ module _ (x : ℕ) where
     abbrev rule : Node → Turn
     rule n = world.act first sent moment n a
 
-    broken_put : put_by (puts i a ++ said.Down i ∷ []) ≡ times x (asked_numbers a)
-    broken_put = let b = put_by_both (puts i a) (said.Down i ∷ []) in let p = puts_put i a in omega (arith, b, p)
+    broken_put : asks_in (puts i a ++ said.Down i ∷ []) ≡ times x (asked_numbers a)
+    broken_put = let b = asks_both (puts i a) (said.Down i ∷ []) in let p = puts_put i a in omega (arith, b, p)
 
-    broken_answered : answered_by (puts i a ++ said.Down i ∷ []) ≡ 0
-    broken_answered = let b = answered_by_both (puts i a) (said.Down i ∷ []) in let p = puts_answered i a in omega (arith, b, p)
+    broken_answered : answers_in (puts i a ++ said.Down i ∷ []) ≡ 0
+    broken_answered = let b = answers_both (puts i a) (said.Down i ∷ []) in let p = puts_answered i a in omega (arith, b, p)
 
     lost_is : (n : Node) → times x (extra.lost ++ (all_waiting n ++ asked_numbers a)) ≡ times x extra.lost + (times x (all_waiting n) + times x (asked_numbers a))
     lost_is n = let o = times_both extra.lost (all_waiting n ++ asked_numbers a) in let p = times_both (all_waiting n) (asked_numbers a) in omega (arith, o, p)
 
-    ended_balances : (n : Node) (f : Fate) → put_by (ended first f course i a extra n (rule n)).said + open_at (record { state = Running n; extra = extra }) ≡ answered_by (ended first f course i a extra n (rule n)).said + open_at (ended first f course i a extra n (rule n)).server
+    ended_balances : (n : Node) (f : Fate) → asks_in (ended first f course i a extra n (rule n)).said + open_at (record { state = Running n; extra = extra }) ≡ answers_in (ended first f course i a extra n (rule n)).said + open_at (ended first f course i a extra n (rule n)).server
     ended_balances n Done =
         let t = rule n in
         let given = gave (place_of first n a) t.answers in
-        let p = put_by_both (puts i a) given in
+        let p = asks_both (puts i a) given in
         let q = puts_put i a in
         let r = gave_put (place_of first n a) t.answers in
-        let u = answered_by_both (puts i a) given in
+        let u = answers_both (puts i a) given in
         let v = puts_answered i a in
         let w = gave_answered (place_of first n a) t.answers in
         let before = times_both extra.lost (all_waiting n) in
@@ -149,7 +136,7 @@ module _ (x : ℕ) where
         let l = lost_is n in
         omega (arith, before, after, p, v, l)
 
-    moved_balances : (s : NodeState) → put_by (moves first course i a rule extra s).said + open_at (record { state = s; extra = extra }) ≡ answered_by (moves first course i a rule extra s).said + open_at (moves first course i a rule extra s).server
+    moved_balances : (s : NodeState) → asks_in (moves first course i a rule extra s).said + open_at (record { state = s; extra = extra }) ≡ answers_in (moves first course i a rule extra s).said + open_at (moves first course i a rule extra s).server
     moved_balances (Running n) = ended_balances n (fate course extra.armed (rule n).stored)
     moved_balances (Down kept rest) =
         let p = puts_put i a in
@@ -207,18 +194,18 @@ module _ (x : ℕ) where
 
   -- what a step puts and what was open before are, together, what it answers and what is open behind it
   abbrev Balances : Cluster → Spoken → Type 0
-  Balances c w = put_by w.1 + times x (unanswered c) ≡ answered_by w.1 + times x (unanswered w.0)
+  Balances c w = asks_in w.1 + times x (unanswered c) ≡ answers_in w.1 + times x (unanswered w.0)
 
   one_balances : (c : Cluster) (w : Spoken) (i : NodeId) → are_apart c.servers ≡ true → one_of c.servers i ≡ true → w.0.servers ≡ c.servers → ((j : NodeId) → j ≢ i → server_in w.0 j ≡ server_in c j)
-      → put_by w.1 + open_at (server_in c i) ≡ answered_by w.1 + open_at (server_in w.0 i) → Balances c w
+      → asks_in w.1 + open_at (server_in c i) ≡ answers_in w.1 + open_at (server_in w.0 i) → Balances c w
   one_balances c w i apart named servers others balance =
       let before = open_total c c.servers in
       let after = open_total w.0 c.servers in
       let moved : times x (unanswered w.0) ≡ times x (unanswered_at w.0 c.servers) = ap (λ (ids : List NodeId). times x (unanswered_at w.0 ids)) servers in
-      let t = total_changes (λ j. open_at (server_in c j)) (λ j. open_at (server_in w.0 j)) i (put_by w.1) (answered_by w.1) c.servers (λ j differs. ap open_at (others j differs)) apart named balance in
+      let t = total_changes (λ j. open_at (server_in c j)) (λ j. open_at (server_in w.0 j)) i (asks_in w.1) (answers_in w.1) c.servers (λ j differs. ap open_at (others j differs)) apart named balance in
       omega (arith, before, after, moved, t)
 
-  same_balances : (c : Cluster) (d : Cluster) (talk : List Said) → put_by talk ≡ 0 → answered_by talk ≡ 0 → d.servers ≡ c.servers → ((j : NodeId) → open_at (server_in d j) ≡ open_at (server_in c j)) → Balances c (d, talk)
+  same_balances : (c : Cluster) (d : Cluster) (talk : List Said) → asks_in talk ≡ 0 → answers_in talk ≡ 0 → d.servers ≡ c.servers → ((j : NodeId) → open_at (server_in d j) ≡ open_at (server_in c j)) → Balances c (d, talk)
   same_balances c d talk put answered servers same =
       let before = open_total c c.servers in
       let after = open_total d c.servers in
@@ -239,11 +226,11 @@ module _ (x : ℕ) where
     act_balances course i a named =
         let changed = each_act course c i a in
         let m = moved_balances c.first (keeps c.first) (now c).sent (now c).moment course i a (c.extras i) (state_in c i) in
-        one_balances c (acts course c i a) i apart named refl changed.others (m ∙ ap (λ (s : Server). answered_by (moved_in course c i a).said + open_at s) (sym changed.here))
+        one_balances c (acts course c i a) i apart named refl changed.others (m ∙ ap (λ (s : Server). answers_in (moved_in course c i a).said + open_at s) (sym changed.here))
 
     open_balances : (course : Course) (i : NodeId) (kept : Persistent LogEntry) (rest : List (StoredRecord LogEntry)) (f : Fault)
-        → put_by (opens c.first f course i (c.extras i) kept rest).1 + open_at (record { state = Down kept rest; extra = c.extras i })
-        ≡ answered_by (opens c.first f course i (c.extras i) kept rest).1 + open_at (opens c.first f course i (c.extras i) kept rest).0
+        → asks_in (opens c.first f course i (c.extras i) kept rest).1 + open_at (record { state = Down kept rest; extra = c.extras i })
+        ≡ answers_in (opens c.first f course i (c.extras i) kept rest).1 + open_at (opens c.first f course i (c.extras i) kept rest).0
     open_balances course i kept rest NoFault = refl
     open_balances course i kept rest Reading = refl
     open_balances course i kept rest Storing = refl
@@ -255,7 +242,7 @@ module _ (x : ℕ) where
         let b = open_balances course i kept rest course.fault in
         let talk = (opens c.first course.fault course i (c.extras i) kept rest).1 in
         one_balances c (starts course c i (Down kept rest)) i apart named changed.servers changed.others
-        (ap (λ (s : NodeState). put_by talk + open_at (record { state = s; extra = c.extras i })) is ∙ b ∙ ap (λ (s : Server). answered_by talk + open_at s) (sym changed.here))
+        (ap (λ (s : NodeState). asks_in talk + open_at (record { state = s; extra = c.extras i })) is ∙ b ∙ ap (λ (s : Server). answers_in talk + open_at s) (sym changed.here))
 
     stop_balances : (i : NodeId) (s : NodeState) → state_in c i ≡ s → one_of c.servers i ≡ true → Balances c (stops c i s)
     stop_balances i (Down kept rest) is named = refl
@@ -270,8 +257,20 @@ module _ (x : ℕ) where
         one_balances c (stops c i (Running n)) i apart named refl changed.others
         (ap (λ (m : ℕ). 0 + m) (ap (λ (s : NodeState). open_at (record { state = s; extra = c.extras i })) is ∙ gone ∙ ap open_at (sym changed.here)))
 
-  ask_balances : (keeps : (first : List Member) → EachTurnKeepsAsks first) (c : Cluster) → are_apart c.servers ≡ true → (course : Course) (i : NodeId) (p : Rattle.rq_play.specs.Cluster.Prepared) (op : world.Op) → one_of c.servers i ≡ true → Balances c (asks_at course c i p op)
-  ask_balances keeps c apart course i p op named = act_balances keeps (record c { asks = c.asks + 1; words = p.left }) apart course i (world.Ask (c.asks + 1) default_timeout op) named
+  ask_balances : (keeps : (first : List Member) → EachTurnKeepsAsks first) (c : Cluster) → are_apart c.servers ≡ true → (course : Course) (i : NodeId) (left : List ℕ) (shape : Shape) (timeout : ℕ) (op : world.Op) → one_of c.servers i ≡ true → Balances c (asks_at course c i left shape timeout op)
+  ask_balances keeps c apart course i left shape timeout op named = act_balances keeps (counts_ask c left shape) apart course i (world.Ask (c.asks + 1) timeout op) named
+
+  missed_balances : (c : Cluster) → are_apart c.servers ≡ true → (i : NodeId) → one_of c.servers i ≡ true → Balances c (misses c i)
+  missed_balances c apart i named =
+      let extra = loses (c.extras i) (c.asks + 1) in
+      let waits = waiting_at (state_in c i) in
+      let old = open_is (server_in c i) in
+      let new = open_is (record { state = state_in c i; extra = extra }) in
+      let lost = times_both (c.extras i).lost ((c.asks + 1) ∷ []) in
+      let here : open_at (server_in (misses c i).0 i) ≡ open_at (record { state = state_in c i; extra = extra }) = ap (λ (e : Extra). open_at (record { state = state_in c i; extra = e })) (extra_same c.extras i extra) in
+      one_balances c (misses c i) i apart named refl
+      (λ j differs. ap (λ (e : Extra). record { state = state_in c j; extra = e }) (extra_other c.extras i extra j differs))
+      (omega (arith, old, new, lost, here))
 
   delivered_balances : (keeps : (first : List Member) → EachTurnKeepsAsks first) (c : Cluster) → are_apart c.servers ≡ true → (course : Course) (k : ℕ) (i : NodeId) → one_of c.servers i ≡ true → Balances c (acts course (took c k) i (world.Deliver k))
   delivered_balances keeps c apart course k i named = act_balances keeps (took c k) apart course i (world.Deliver k) named
@@ -286,97 +285,63 @@ module _ (x : ℕ) where
     basic_balances _ (IsBasic.is_armed calls pick i) known = extra_balances c i (record (c.extras i) { armed = Some (record { calls = calls; pick = pick }) }) refl
     basic_balances _ (IsBasic.is_cut cut i) known = extra_balances c i (record (c.extras i) { is_cut = cut }) refl
     basic_balances _ (IsBasic.is_taken k) known = refl
-    basic_balances _ (IsBasic.is_ask course i p op named) known = ask_balances keeps c apart course i p op named
+    basic_balances _ (IsBasic.is_ask course i left shape timeout op named) known = ask_balances keeps c apart course i left shape timeout op named
+    basic_balances _ (IsBasic.is_rejected status text) known = refl
+    basic_balances _ (IsBasic.is_missed i named) known = missed_balances c apart i named
+    basic_balances _ (IsBasic.is_clock moment) known = refl
     basic_balances _ (IsBasic.is_delivered course k i named) known = delivered_balances keeps c apart course k i named
 
 -- ---- lines and runs
 
 -- the servers are apart, they are the members, and what is unanswered is open
-pub record IsBalanced (c : Cluster) : Type 0 where
-  pub apart : are_apart c.servers ≡ true
-  pub known : (i : NodeId) → one_of c.servers i ≡ true → one_of (members c.first) i ≡ true
-  pub open_asks : IsOpen c
+pub record IsBalanced (talk : List Said) (c : Cluster) : Type 0 where
+  pub founded : IsFounded c
+  pub open_asks : IsOpen talk c
 
-pub balanced_on : (keeps : (first : List Member) → EachTurnKeepsAsks first) (c : Cluster) (w : Spoken) → IsBalanced c → IsBasic c w → IsBalanced w.0
-balanced_on keeps c w so_far basic = record {
-  apart = ap are_apart (basic_servers c w basic) ∙ so_far.apart;
-  known = λ i named. subst (λ (f : List Member). one_of (members f) i ≡ true) (sym (basic_first c w basic)) (so_far.known i (ap (λ (ids : List NodeId). one_of ids i) (sym (basic_servers c w basic)) ∙ named));
+balanced_on : (keeps : (first : List Member) → EachTurnKeepsAsks first) (before : List Said) (c : Cluster) (w : Spoken) → IsBalanced before c → IsBasic c w → IsBalanced (before ++ w.1) w.0
+balanced_on keeps before c w so_far basic = record {
+  founded = founded_on c w so_far.founded basic;
   open_asks = λ x.
-      let tells = basic_tells c w basic in
-      let put : times x (put_in (now w.0).book) ≡ times x (put_in ((now c).book ++ notes_of w.1)) = ap (λ (l : List Note). times x (put_in l)) tells in
-      let answered : times x (answered_in (now w.0).book) ≡ times x (answered_in ((now c).book ++ notes_of w.1)) = ap (λ (l : List Note). times x (answered_in l)) tells in
-      let p = put_both x (now c).book (notes_of w.1) in
-      let a = answered_both x (now c).book (notes_of w.1) in
-      let b = basic_balances x keeps c so_far.apart w basic so_far.known in
+      let p = asks_both x before w.1 in
+      let a = answers_both x before w.1 in
+      let b = basic_balances x keeps c so_far.founded.apart w basic so_far.founded.known in
       let o = so_far.open_asks x in
-      omega (arith, put, answered, p, a, b, o);
+      omega (arith, p, a, b, o);
 }
 
-ran_balanced : (keeps : (first : List Member) → EachTurnKeepsAsks first) (plan : Plan) → PlanIsBasic plan → IsBalanced plan.start → (courses : List Course) → ((ran plan.step courses plan.start).0.servers ≡ plan.start.servers) × IsBalanced (ran plan.step courses plan.start).0
-ran_balanced keeps plan basic start [] = (refl, start)
-ran_balanced keeps plan basic start (course ∷ earlier) =
+record RanBalanced (before : List Said) (start : Cluster) (w : Spoken) : Type 0 where
+  pub servers : w.0.servers ≡ start.servers
+  pub balanced : IsBalanced (before ++ w.1) w.0
+
+ran_balanced : (keeps : (first : List Member) → EachTurnKeepsAsks first) (plan : Plan) → PlanIsBasic plan → (before : List Said) → IsBalanced before plan.start → (courses : List Course) → RanBalanced before plan.start (ran plan.step courses plan.start)
+ran_balanced keeps plan basic before start [] = record { servers = refl; balanced = subst (λ (l : List Said). IsBalanced l plan.start) (sym (append-nil before)) start }
+ran_balanced keeps plan basic before start (course ∷ earlier) =
     let w = ran plan.step earlier plan.start in
     let t = plan.step course (length earlier) w.0 in
-    let so_far = ran_balanced keeps plan basic start earlier in
-    let b = basic course (length earlier) w.0 so_far.0 in
-    (basic_servers w.0 t b ∙ so_far.0, balanced_on keeps w.0 t so_far.1 b)
-
--- ---- the cluster line
-
-behind : (i : NodeId) (ids : List NodeId) (j : NodeId) → one_of ids j ≡ true → one_of (i ∷ ids) j ≡ true
-behind i ids j there = if_case (λ (b : Bool). b ≡ true) (bytes_eq j i) true (one_of ids j) (λ e. refl) (λ e. there)
-
-over : (i : NodeId) (ids more : List NodeId) (j : NodeId) → (one_of ids j ≡ true → one_of more j ≡ true) → one_of (i ∷ ids) j ≡ true → one_of (i ∷ more) j ≡ true
-over i ids more j goes = by (bytes_eq j i)
-  where
-    by : (b : Bool) → (if b then true else one_of ids j) ≡ true → (if b then true else one_of more j) ≡ true
-    by true there = refl
-    by false there = goes there
-
-one_first : (i : NodeId) (ids : List NodeId) → one_of (i ∷ ids) i ≡ true
-one_first i ids = ap (λ (b : Bool). if b then true else one_of ids i) (id_self i)
-
-one_put : (i : NodeId) (ids : List NodeId) → one_of (put_id i ids) i ≡ true
-one_put i [] = one_first i []
-one_put i (j ∷ ids) = if_case (λ (l : List NodeId). one_of l i ≡ true) (is_lt (slice_cmp nat_cmp i j)) (i ∷ j ∷ ids) (j ∷ put_id i ids) (λ e. one_first i (j ∷ ids)) (λ e. behind j (put_id i ids) i (one_put i ids))
-
-put_keeps : (i j : NodeId) (ids : List NodeId) → one_of ids j ≡ true → one_of (put_id i ids) j ≡ true
-put_keeps i j [] there = absurd (cc)
-put_keeps i j (k ∷ ids) there = if_case (λ (l : List NodeId). one_of l j ≡ true) (is_lt (slice_cmp nat_cmp i k)) (i ∷ k ∷ ids) (k ∷ put_id i ids) (λ e. behind i (k ∷ ids) j there) (λ e. over k ids (put_id i ids) j (put_keeps i j ids) there)
-
-kept_in_order : (ids : List NodeId) (i : NodeId) → one_of ids i ≡ true → one_of (in_order ids) i ≡ true
-kept_in_order [] i there = there
-kept_in_order (j ∷ ids) i there = by (bytes_eq i j) refl there (kept_in_order ids i)
-  where
-    by : (b : Bool) → bytes_eq i j ≡ b → (if b then true else one_of ids i) ≡ true → (one_of ids i ≡ true → one_of (in_order ids) i ≡ true) → one_of (put_id j (in_order ids)) i ≡ true
-    by true e h more = subst (λ (k : NodeId). one_of (put_id j (in_order ids)) k ≡ true) (sym (id_true i j e)) (one_put j (in_order ids))
-    by false e h more = put_keeps j i (in_order ids) (more h)
-
-members_are : (ids : List NodeId) → members (map member_of ids) ≡ ids
-members_are [] = refl
-members_are (i ∷ ids) = ap (λ (l : List NodeId). i ∷ l) (members_are ids)
+    let so_far = ran_balanced keeps plan basic before start earlier in
+    let b = basic course (length earlier) w.0 so_far.servers in
+    record {
+      servers = basic_servers w.0 t b ∙ so_far.servers;
+      balanced = subst (λ (l : List Said). IsBalanced l t.0) (append_assoc before w.1 t.1) (balanced_on keeps (before ++ w.1) w.0 t so_far.balanced b);
+    }
 
 nothing_open : (ids : List NodeId) (x : ℕ) → total x (λ j. 0) ids ≡ 0
 nothing_open [] x = refl
 nothing_open (i ∷ ids) x = let h = nothing_open ids x in omega (arith, h)
 
-pub begins_balanced : (c start : Cluster) → IsBalanced c → BeginsAt c start → IsBalanced start
-begins_balanced c start so_far (BeginsAt.is_here same) = subst IsBalanced (sym same) so_far
-begins_balanced c start so_far (BeginsAt.names ids none can same) =
-    let allowed = (and_true (is_allowed ids) (is_first c.run) can).0 in
-    let few = (and_true (nat_le 1 (length ids)) (nat_le (length ids) 9 && are_apart ids) allowed).1 in
-    subst IsBalanced (sym same) (record {
-      apart = (and_true (nat_le (length ids) 9) (are_apart ids) few).1;
-      known = λ i named. subst (λ (l : List NodeId). one_of l i ≡ true) (sym (members_are (in_order ids))) (kept_in_order ids i named);
-      open_asks = λ x. let u = open_total x (named c ids) ids in let z = nothing_open ids x in omega (arith, u, z);
-    })
+named_open : (c : Cluster) (ids : List NodeId) → IsOpen [] (named c ids)
+named_open c ids x = let u = open_total x (named c ids) ids in let z = nothing_open ids x in omega (arith, u, z)
 
-step_balanced : (keeps : (first : List Member) → EachTurnKeepsAsks first) (c : Cluster) (line : Line) (talk : List Said) (next : Cluster) → Steps c line talk next → IsBalanced c → IsBalanced next
-step_balanced keeps c line talk next s so_far =
-    let w = s.way in
-    let start = begins_balanced c w.plan.start so_far (line_starts w.prepared c line w.plan w.stands) in
-    subst (λ (v : Spoken). IsBalanced v.0) s.does (ran_balanced keeps w.plan (line_basic w.prepared c line w.plan w.stands) start w.courses).1
+begins_balanced : (words : List ℕ) (ls : List Line) (talk : List Said) (c start : Cluster) → Runs words ls talk c → IsBalanced talk c → BeginsAt c start → IsBalanced talk start
+begins_balanced words ls talk c start runs so_far begins = record { founded = begins_founded c start so_far.founded begins; open_asks = by begins }
+  where
+    by : BeginsAt c start → IsOpen talk start
+    by (BeginsAt.is_here same) = subst (IsOpen talk) (sym same) so_far.open_asks
+    by (BeginsAt.names ids none can same) = subst (λ (l : List Said). IsOpen l start) (sym (nothing_said words ls talk c runs none)) (subst (IsOpen []) (sym same) (named_open c ids))
 
-pub runs_are_balanced : (keeps : (first : List Member) → EachTurnKeepsAsks first) (words : List ℕ) (ls : List Line) (talk : List Said) (c : Cluster) → Runs words ls talk c → IsBalanced c
-runs_are_balanced keeps words _ _ _ Runs.start = record { apart = refl; known = λ i named. absurd (cc); open_asks = λ x. refl }
-runs_are_balanced keeps words _ _ _ (Runs.line {said = before} {c = from} l more next runs steps) = step_balanced keeps from l more next steps (runs_are_balanced keeps words _ before from runs)
+pub runs_are_balanced : (keeps : (first : List Member) → EachTurnKeepsAsks first) (words : List ℕ) (ls : List Line) (talk : List Said) (c : Cluster) → Runs words ls talk c → IsBalanced talk c
+runs_are_balanced keeps words _ _ _ Runs.start = record { founded = runs_are_founded words [] [] _ Runs.start; open_asks = λ x. refl }
+runs_are_balanced keeps words _ _ _ (Runs.line {said = before} {c = from} l more next runs steps) =
+    let w = steps.way in
+    let start = begins_balanced words _ before from w.plan.start runs (runs_are_balanced keeps words _ before from runs) (line_starts w.prepared from l w.plan w.stands) in
+    subst (λ (v : Spoken). IsBalanced (before ++ v.1) v.0) steps.does (ran_balanced keeps w.plan (line_basic w.prepared from l w.plan w.stands) before start w.courses).balanced

@@ -4,7 +4,7 @@ use Rattle.std.proofs.lemmas.List.{append-nil, append_assoc}
 use Rattle.rq_wire.specs.declared.config.Member.{Member}
 use Rattle.rq_history.specs.History.{NodeId}
 use Rattle.rq_raft.specs.Node.{StoredRecord, Persistent, one_of}
-use Rattle.rq_request.specs.declared.ask.Level.TheVariants as level
+use Rattle.rq_request.specs.declared.shape.Shape.{Shape}
 use Rattle.rq_request.specs.declared.say.Answer.{Answer}
 use Rattle.rq_world.specs.declared.log_entry.LogEntry.{LogEntry}
 use Rattle.rq_world.specs.Node.{Node, Turn, members}
@@ -14,7 +14,7 @@ use Rattle.rq_play.specs.Line.{Line}
 use Rattle.rq_play.specs.Line as lines
 use Rattle.rq_play.specs.Said.{Said, said_notes, notes_of, gave}
 use Rattle.rq_play.specs.Server.{Extra, Course, Fault, NoFault, Reading, Storing, Fate, Done, Struck, Failed, fate, puts, ended, moves, event_by, event_of, opens, opening}
-use Rattle.rq_play.specs.Cluster.{Cluster, now, state_in, Spoken, acts, goes_if, starts, stops, took, is_first, is_allowed, named, Prepared, Plan, default_timeout, asks_at, planned, ran}
+use Rattle.rq_play.specs.Cluster.{Cluster, now, state_in, Spoken, acts, goes_if, starts, stops, took, is_first, is_allowed, named, Prepared, Plan, counts_ask, asks_at, planned, ran}
 use Rattle.rq_play.specs.Runs.{Runs, Steps}
 use Rattle.rq_play.specs.Promise.{IsTold}
 use Rattle.rq_play.proofs.Common.{and_true}
@@ -72,8 +72,8 @@ module _ (first : List Member) where
 acts_tell : (course : Course) (c : Cluster) (i : NodeId) (a : Act) → Tells c (acts course c i a)
 acts_tell course c i a = event_tells c.first (now c) i course a (c.extras i) (state_in c i) refl
 
-asks_tell : (course : Course) (c : Cluster) (i : NodeId) (p : Prepared) (op : Op) → Tells c (asks_at course c i p op)
-asks_tell course c i p op = acts_tell course (record c { asks = c.asks + 1; words = p.left }) i (world.Ask (c.asks + 1) default_timeout op)
+asks_tell : (course : Course) (c : Cluster) (i : NodeId) (left : List ℕ) (shape : Shape) (timeout : ℕ) (op : Op) → Tells c (asks_at course c i left shape timeout op)
+asks_tell course c i left shape timeout op = acts_tell course (counts_ask c left shape) i (world.Ask (c.asks + 1) timeout op)
 
 -- ---- starts and stops
 
@@ -110,7 +110,10 @@ pub basic_tells : (c : Cluster) (w : Spoken) → IsBasic c w → Tells c w
 basic_tells c _ IsBasic.is_nothing = nothing_told c
 basic_tells c _ (IsBasic.is_shown i named) = nothing_told c
 basic_tells c _ (IsBasic.is_act course i a plain named) = acts_tell course c i a
-basic_tells c _ (IsBasic.is_ask course i p op named) = asks_tell course c i p op
+basic_tells c _ (IsBasic.is_ask course i left shape timeout op named) = asks_tell course c i left shape timeout op
+basic_tells c _ (IsBasic.is_rejected status text) = nothing_told c
+basic_tells c _ (IsBasic.is_missed i named) = nothing_told c
+basic_tells c _ (IsBasic.is_clock moment) = nothing_told c
 basic_tells c _ (IsBasic.is_start course i named) = starts_tell course c i (state_in c i)
 basic_tells c _ (IsBasic.is_stop i named) = stops_tell c i (state_in c i)
 basic_tells c _ (IsBasic.is_armed calls pick i) = nothing_told c

@@ -1,24 +1,27 @@
 -- The cluster of a script and what its lines do: events of the world, one after the other. docs/SCRIPT.md, "Lines".
-use Rattle.std.specs.Prelude.{ℕ, zero, suc, ◌+◌, ◌-◌, ◌==◌, ◌&&◌, ◌||◌, not, nat_le, if◌then◌else◌, bytes_eq, Bool, true, false, Option, Some, None, is_some, List, [], ◌∷◌, ◌++◌, length, map, slice_get, codes}
+use Rattle.std.specs.Prelude.{ℕ, zero, suc, ◌+◌, ◌-◌, ◌==◌, ◌&&◌, ◌||◌, not, nat_le, if◌then◌else◌, bytes_eq, Bool, true, false, Option, Some, None, is_some, Result, Ok, Err, List, [], ◌∷◌, ◌++◌, length, map, slice_get, codes}
 use Rattle.std.specs.Ordering.{nat_cmp, is_lt}
 use Rattle.std.specs.Cmp.Lexicographic.{slice_cmp}
 use Rattle.rq_wire.specs.declared.config.Member.{Member}
 use Rattle.rq_history.specs.History.{NodeId}
 use Rattle.rq_raft.specs.Node.{Packet, one_of}
 use Rattle.rq_statement.specs.declared.item.Item.{Item}
-use Rattle.rq_statement.specs.Statements.{Statements}
-use Rattle.rq_request.specs.declared.ask.Level.TheVariants as level
-use Rattle.rq_json.specs.Body.{texts_of}
+use Rattle.rq_request.specs.declared.shape.Shape.{Shape}
+use Rattle.rq_asking.specs.declared.reading.Requested.{Requested}
+use Rattle.rq_asking.specs.declared.reading.Defect.{Defect}
+use Rattle.rq_asking.specs.Requested.{requested_of, status_of, text_of}
+use Rattle.rq_asking.specs.Asked.{op_at}
 use Rattle.rq_world.specs.declared.log_entry.LogEntry.{LogEntry}
 use Rattle.rq_world.specs.Node.{Node, Turn}
-use Rattle.rq_world.specs.World.{World, NodeState, Running, Down, Act, Ask, Op, Write, Read, Event, First, Then, act}
+use Rattle.rq_world.specs.World.{World, NodeState, Running, Down, Act, Ask, Op, Event, First, Then, act}
 use Rattle.rq_world.specs.World as world
-use Rattle.rq_play.specs.Line.{Action, Elect, Beat, Apply, Execute, Query, Stop, StopWithin, Start, Cut, Heal, Show, Line, Skip, Cluster as ClusterLine, At, Deliver, Run as RunLine}
-use Rattle.rq_play.specs.Said.{Said, Down as WentDown, Shown}
+use Rattle.rq_play.specs.Line.{Action, Elect, Beat, Flush, Apply, Compact, Ask as AskLine, Stop, StopWithin, Start, Cut, Heal, Show, Line, Skip, Cluster as ClusterLine, At, Deliver, Run as RunLine, Clock}
+use Rattle.rq_play.specs.Said.{Said, Down as WentDown, Rejected, Missed, Shown}
 use Rattle.rq_play.specs.Server.{Extra, Server, Moved, Course, gone_down, moves, event_of, opens, opening}
+use Rattle.rq_play.specs.Asking.{op_in, plain, set_shape}
 
 -- the servers in the order of the cluster line, the first configuration, all that has happened, what the lines keep of each server,
--- which packets, counted from 0, were delivered or passed over, how many asks there were, and the random words to come
+-- which packets, counted from 0, were delivered or passed over, how many asks there were, the shape of each one's reply, and the random words to come
 pub record Cluster : Type 0 where
   pub servers : List NodeId
   pub first : List Member
@@ -26,6 +29,7 @@ pub record Cluster : Type 0 where
   pub extras : NodeId → Extra
   pub taken : ℕ → Bool
   pub asks : ℕ
+  pub shapes : ℕ → Shape
   pub words : List ℕ
 
 abbrev pub now : Cluster → World
@@ -162,7 +166,7 @@ new_extra = record { armed = None; lost = []; failures = 0; is_cut = false }
 
 -- before the cluster line
 abbrev pub first_cluster : List ℕ → Cluster
-first_cluster words = record { servers = []; first = []; run = First; extras = λ i. new_extra; taken = λ k. false; asks = 0; words = words }
+first_cluster words = record { servers = []; first = []; run = First; extras = λ i. new_extra; taken = λ k. false; asks = 0; shapes = λ number. plain; words = words }
 
 -- the servers are named, with new files, and none has started
 abbrev pub named : Cluster → List NodeId → Cluster
@@ -194,17 +198,39 @@ pub record Prepared : Type 0 where
   pub items : List Item
   pub left : List ℕ
 
--- how long an ask may wait, in milliseconds
-abbrev pub default_timeout : ℕ
-default_timeout = 10000
+-- an ask more, of which this is the reply's shape, and these random words are left
+abbrev pub counts_ask : Cluster → List ℕ → Shape → Cluster
+counts_ask c left shape = record c { asks = c.asks + 1; words = left; shapes = set_shape c.shapes (c.asks + 1) shape }
 
--- each item by itself
-abbrev pub list_of : List Item → Statements
-list_of items = record { transaction = false; items = items }
+-- it is put to the server's node
+abbrev pub asks_at : Course → Cluster → NodeId → List ℕ → Shape → ℕ → Op → Spoken
+asks_at course c i left shape timeout op = acts course (counts_ask c left shape) i (Ask (c.asks + 1) timeout op)
+
+-- its request is refused, and no node is asked
+abbrev pub rejects : Cluster → ℕ → List ℕ → Spoken
+rejects c status text = (record c { asks = c.asks + 1 }, Rejected (c.asks + 1) status text ∷ [])
+
+-- no node runs at the server, and it stays unanswered
+abbrev pub loses : Extra → ℕ → Extra
+loses extra number = record extra { lost = extra.lost ++ number ∷ [] }
+
+abbrev pub misses : Cluster → NodeId → Spoken
+misses c i = (record (keeps_extra c i (loses (c.extras i) (c.asks + 1))) { asks = c.asks + 1 }, Missed (c.asks + 1) i ∷ [])
+
+-- what a request asks for
+abbrev pub puts_op : Course → Cluster → NodeId → Requested → List ℕ → Option Op → Spoken
+puts_op course c i r left (Some op) = asks_at course c i left r.request.shape r.request.timeout op
+puts_op course c i r left None = misses c i
+
+-- a request, which isn't refused or has this as its first defect
+abbrev pub puts_request : Course → Cluster → NodeId → List ℕ → List ℕ → Prepared → Result Requested Defect → Spoken
+puts_request course c i method target p (Ok r) = puts_op course c i r p.left (op_in (op_at r.request.path r.request p.items))
+puts_request course c i method target p (Err defect) = rejects c (status_of defect) (text_of method target defect)
 
 -- the next ask
-abbrev pub asks_at : Course → Cluster → NodeId → Prepared → Op → Spoken
-asks_at course c i prepared op = acts course (record c { asks = c.asks + 1; words = prepared.left }) i (Ask (c.asks + 1) default_timeout op)
+abbrev pub asks_with : Course → Cluster → NodeId → List ℕ → List ℕ → List ℕ → Prepared → NodeState → Spoken
+asks_with course c i method target body p (Running n) = puts_request course c i method target p (requested_of method target body)
+asks_with course c i method target body p (Down kept rest) = misses c i
 
 abbrev pub is_running : NodeState → Bool
 is_running (Running n) = true
@@ -218,9 +244,10 @@ to_apply (Down kept rest) = 0
 abbrev pub at_server : Prepared → Cluster → NodeId → Action → Option Plan
 at_server prepared c i Elect = Some (one_step c (λ course d. acts course d i world.Elect))
 at_server prepared c i Beat = Some (one_step c (λ course d. acts course d i world.Beat))
+at_server prepared c i Flush = Some (one_step c (λ course d. acts course d i world.Flush))
 at_server prepared c i Apply = Some (record { start = c; count = to_apply (state_in c i); step = λ course k d. acts course d i world.Apply })
-at_server prepared c i (Execute body) = when (is_some (texts_of body)) (one_step c (λ course d. asks_at course d i prepared (Write (list_of prepared.items) false)))
-at_server prepared c i (Query body) = when (is_some (texts_of body)) (one_step c (λ course d. asks_at course d i prepared (Read prepared.items level.None None)))
+at_server prepared c i Compact = Some (one_step c (λ course d. acts course d i world.Compact))
+at_server prepared c i (AskLine method target body) = Some (one_step c (λ course d. asks_with course d i method target body prepared (state_in d i)))
 at_server prepared c i Stop = when (is_running (state_in c i)) (one_step c (λ course d. stops d i (state_in d i)))
 at_server prepared c i (StopWithin calls pick) = when (is_running (state_in c i)) (one_step c (λ course d. arms calls pick d i))
 at_server prepared c i Start = when (not (is_running (state_in c i))) (one_step c (λ course d. starts course d i (state_in d i)))
@@ -233,6 +260,22 @@ abbrev pub numbered : Cluster → ℕ → Option Plan
 numbered c zero = None
 numbered c (suc k) = when (is_some (slice_get (now c).sent k)) (one_step c (λ course d. delivers course d k (slice_get (now d).sent k)))
 
+-- the moment is that one, and then each node ticks that runs, in rising order of ids
+abbrev pub clocks : Cluster → ℕ → Spoken
+clocks c moment = (record c { run = Then c.run (world.Clock moment) }, [])
+
+abbrev pub ticks_next : Course → Cluster → Option NodeId → Spoken
+ticks_next course c None = (c, [])
+ticks_next course c (Some i) = acts course c i world.Tick
+
+abbrev pub clock_step : ℕ → Course → ℕ → Cluster → Spoken
+clock_step moment course zero c = clocks c moment
+clock_step moment course (suc k) c = ticks_next course c (slice_get (in_order c.servers) k)
+
+-- the moment isn't below the present one
+abbrev pub clocked : Cluster → ℕ → Option Plan
+clocked c moment = when (nat_le (now c).moment moment) (record { start = c; count = 1 + length c.servers; step = clock_step moment })
+
 -- each step starts the next of the servers
 abbrev pub starts_all : Cluster → List NodeId → Plan
 starts_all c ids = record { start = named c ids; count = length ids; step = λ course k d. starts_next course d (slice_get d.servers k) }
@@ -244,6 +287,7 @@ before_cluster c (ClusterLine ids) = when (can_name c ids) (starts_all c ids)
 before_cluster c (At i action) = None
 before_cluster c (Deliver number) = None
 before_cluster c (RunLine times) = None
+before_cluster c (Clock moment) = None
 
 abbrev pub in_cluster : Prepared → Cluster → Line → Option Plan
 in_cluster prepared c Skip = Some (no_step c)
@@ -251,6 +295,7 @@ in_cluster prepared c (ClusterLine ids) = None
 in_cluster prepared c (At i action) = if is_named c i then at_server prepared c i action else None
 in_cluster prepared c (Deliver number) = numbered c number
 in_cluster prepared c (RunLine times) = Some (record { start = c; count = times; step = λ course k d. takes_lowest course d (lowest d.taken 0 (now d).sent) })
+in_cluster prepared c (Clock moment) = clocked c moment
 
 -- the line that stands here, where its statements are read so
 abbrev pub planned : Prepared → Cluster → Line → Option Plan

@@ -1,6 +1,7 @@
 pub mod Line
 pub mod Said
 pub mod Server
+pub mod Asking
 pub mod Cluster
 pub mod Reading
 pub mod Runs

@@ -6,9 +6,10 @@ use Rattle.rq_history.specs.History.{NodeId}
 pub data Action : Type 0 where
   Elect : Action
   Beat : Action
+  Flush : Action
   Apply : Action
-  Execute : (body : List ℕ) → Action
-  Query : (body : List ℕ) → Action
+  Compact : Action
+  Ask : (method target body : List ℕ) → Action  -- a request, as it would come over HTTP
   Stop : Action  -- at once
   StopWithin : (calls pick : ℕ) → Action  -- in the event that needs more than so many changing calls
   Start : Action
@@ -22,3 +23,4 @@ pub data Line : Type 0 where
   At : (id : NodeId) (action : Action) → Line  -- at the server of this id
   Deliver : (number : ℕ) → Line  -- the packet of this number, counted from 1, again if it was delivered before
   Run : (times : ℕ) → Line  -- so often: the lowest packet that was neither delivered nor passed over
+  Clock : (moment : ℕ) → Line  -- in milliseconds since 1970-01-01

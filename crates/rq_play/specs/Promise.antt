@@ -1,5 +1,5 @@
 -- What each run of a script's lines promises. docs/RAFT.md, "What a run promises".
-use Rattle.std.specs.Prelude.{◌≡◌, ◌≢◌, ◌<◌, ◌⊎◌, ◌++◌, ℕ, true, Option, Some, List, [], take, slice_get, ⊤}
+use Rattle.std.specs.Prelude.{◌≡◌, ◌≢◌, ◌<◌, ◌⊎◌, ◌++◌, ℕ, true, Option, Some, List, [], take, slice_get, is_some, ⊤}
 use Rattle.rq_history.specs.History.{NodeId}
 use Rattle.rq_raft.specs.Node.{Packet, StoredRecord, Persistent, one_of}
 use Rattle.rq_world.specs.declared.log_entry.LogEntry.{LogEntry}
@@ -16,11 +16,13 @@ use Rattle.rq_world.specs.Promise.{op_of, IsReadRight, IsNumbered, Keeps}
 use Rattle.rq_world.specs.Appends.{AsksAppendOnce, HasPlace, WritesHavePlaces}
 use Rattle.rq_world.specs.World.{NodeState, Act, IsPast, Running, Down, Op, Read, Answered, chosen}
 use Rattle.rq_world.specs.World as world
+use Rattle.rq_request.specs.declared.ask.Op.{Op as AskOp}
 use Rattle.rq_play.specs.Line.{Line}
-use Rattle.rq_play.specs.Said.{Said, Up, Down as WentDown, Put, Gave, Shown, notes_of}
+use Rattle.rq_play.specs.Said.{Said, Up, Down as WentDown, Put, Rejected, Missed, Gave, Shown, notes_of}
 use Rattle.rq_play.specs.Server.{Server, Course, gone_down, opens}
 use Rattle.rq_play.specs.Cluster.{Cluster, now, server_in, state_in, Prepared, acts, moved_in, starts, stops, is_running}
-use Rattle.rq_play.specs.Reading.{IsReadIn}
+use Rattle.rq_play.specs.Asking.{op_in}
+use Rattle.rq_play.specs.Reading.{IsReadIn, LacksWords}
 use Rattle.rq_play.specs.Runs.{Steps, IsOutside, unanswered}
 use Rattle.rq_play.specs.Book.{AreNumbered, AreOpen, IsAcknowledgedAt}
 
@@ -36,6 +38,7 @@ pub record ChangesOne (i : NodeId) (after : Server) (more : List (Packet LogEntr
   pub first : next.first ≡ c.first
   pub taken : next.taken ≡ c.taken
   pub asks : next.asks ≡ c.asks
+  pub shapes : next.shapes ≡ c.shapes
   pub words : next.words ≡ c.words
 
 -- an act at a server changes that server alone, as its own definition has it
@@ -53,10 +56,19 @@ EachStopIsAtOne = (c : Cluster) (i : NodeId) (n : Node) → state_in c i ≡ Run
 
 -- ---- a line
 
--- a line leads somewhere, however its statements are read, or it can't stand, and never both
+abbrev pub Leads : Cluster → Line → Type 0
+Leads c line = (said : List Said) × (next : Cluster) × Steps c line said next
+
+-- a line leads somewhere, however its statements are read, or it can't stand, or no random word is left for it, and never two of these
 pub record IsDecided (c : Cluster) (line : Line) : Type 0 where
-  pub either : (prepared : Prepared) → IsReadIn c line prepared → ((said : List Said) × (next : Cluster) × Steps c line said next) ⊎ IsOutside c line
-  pub apart : (said : List Said) (next : Cluster) → Steps c line said next → IsOutside c line → ⊥
+  pub either : (prepared : Prepared) → IsReadIn c line prepared → Leads c line ⊎ IsOutside c line
+  pub apart : Leads c line → IsOutside c line → ⊥
+  pub enough : Leads c line → LacksWords c line → ⊥
+  pub stands : IsOutside c line → LacksWords c line → ⊥
+
+-- a rule of the world does this
+abbrev pub HasRule : AskOp → Type 0
+HasRule op = is_some (op_in op) ≡ true
 
 -- ---- a run
 
@@ -75,6 +87,8 @@ IsSo c (Up i n) = WasIn c i (Running n)
 IsSo c (WentDown i) = (state : NodeState) × (is_running state ≢ true) × WasIn c i state
 IsSo c (Shown i state) = WasIn c i state
 IsSo c (Put number i op) = ⊤
+IsSo c (Rejected number status text) = ⊤
+IsSo c (Missed number i) = ⊤
 IsSo c (Gave number say place) = ⊤
 
 -- what was said of a server was so
@@ -93,11 +107,11 @@ AreBehind c = (k number place : ℕ) (say : Say) → slice_get (now c).book k �
 abbrev pub HavePlaces : Cluster → Type 0
 HavePlaces c = (put answered index : ℕ) (a : IsAcknowledgedAt (now c).book put answered index) → (position : ℕ) × HasPlace c.first c.run a.number index position
 
--- No two asks have one number. Each running node is a replica of a prefix of the one log, and each answer is right. Each acknowledged
--- write has a place, and no two have one. Each list in a log, of a node that runs or is down, was asked, and each ask was appended at most
--- once; it was put before it was answered, and answered once.
-pub record AreKept (c : Cluster) : Type 0 where
-  pub numbered : AreNumbered 0 (now c).book c.asks
+-- Asks are numbered one by one, and no two in the book have one number. Each running node is a replica of a prefix of the one log, and
+-- each answer is right. Each acknowledged write has a place, and no two have one. Each list in a log, of a node that runs or is down, was
+-- asked, and each ask was appended at most once; it was put before it was answered, and answered once.
+pub record AreKept (said : List Said) (c : Cluster) : Type 0 where
+  pub numbered : AreNumbered 0 said c.asks
   pub apart : IsNumbered c.first c.run
   pub keeps : Keeps c.first c.run
   pub places : WritesHavePlaces c.first c.run
@@ -122,6 +136,6 @@ pub record HasApplied (c next : Cluster) (i : NodeId) (n : Node) : Type 0 where
   pub applied : node.raft.applied ≡ n.raft.commit
   pub behind : (k : ℕ) (w : Waiting) → slice_get node.waiting k ≡ Some w → n.raft.commit < w.index
 
--- what is unanswered is what the book has open
-abbrev pub IsOpen : Cluster → Type 0
-IsOpen c = AreOpen (now c).book (unanswered c)
+-- each ask is answered or unanswered, and each number is as often
+abbrev pub IsOpen : List Said → Cluster → Type 0
+IsOpen said c = AreOpen said (unanswered c)

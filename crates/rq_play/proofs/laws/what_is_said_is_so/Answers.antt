@@ -2,4 +2,4 @@ use Rattle.rq_play.proofs.Truth.{runs_are_so}
 use Rattle.rq_play.proofs.laws.what_is_said_is_so.Goals as goal
 
 pub returns : goal.returns
-returns c = λ words lines said cluster run. runs_are_so c.each_turn_keeps_asks.ensures words lines said cluster run
+returns c = λ words lines said cluster run. runs_are_so words lines said cluster run
