@@ -99,3 +99,6 @@ all_filled s xs = fill_all (map (filling s) xs)
 
 abbrev pub filled_args : Sort → Text → List Expr → Fill Expr
 filled_args s n xs left = (e.Call n (all_filled s xs left).0, (all_filled s xs left).1)
+
+abbrev pub filled_items : (List Expr → Expr) → Sort → List Expr → Fill Expr
+filled_items make s xs left = (make (all_filled s xs left).0, (all_filled s xs left).1)

@@ -8,7 +8,7 @@ use crate::joining::{both, with_item};
 use crate::naming::call_node;
 use crate::node::{Drawn, Sort};
 use crate::values::Values;
-use rq_grammar::Expr;
+use rq_grammar::{BinaryOp, Expr};
 use rq_values::{NoMemory, Text, TryCopy, Value};
 use sqlite_items::{Boxed, Items};
 use std::alloc::Global;
@@ -146,27 +146,121 @@ fn filled_call(
     }
 }
 
+fn copied_literal(alloc: Global, value: &Value) -> Result<Expr, NoMemory>
+    ensures { IfOk result (λ x. x ≡ e.Literal value.now) }
+{
+    match value.copy(alloc) {
+        Ok(value) => Ok(Expr::Literal(value)),
+        Err(error) => Err(error),
+    }
+}
+
+fn copied_name(alloc: Global, name: &Text) -> Result<Expr, NoMemory>
+    ensures { IfOk result (λ x. x ≡ e.Name name.now) }
+{
+    match name.copy(alloc) {
+        Ok(name) => Ok(Expr::Name(name)),
+        Err(error) => Err(error),
+    }
+}
+
+fn copied_qualified(alloc: Global, table: &Text, column: &Text) -> Result<Expr, NoMemory>
+    ensures { IfOk result (λ x. x ≡ e.Qualified table.now column.now) }
+{
+    match both(table.copy(alloc), column.copy(alloc)) {
+        Ok((table, column)) => Ok(Expr::Qualified { table, column }),
+        Err(error) => Err(error),
+    }
+}
+
+/// The operator on what is left of it, and on its right operand.
+#[cycle(filled)]
+fn filled_right(
+    alloc: Global,
+    sort: Sort,
+    op: BinaryOp,
+    right: &Expr,
+    one: Boxed<Expr>,
+    left: &mut Values,
+) -> Result<Expr, NoMemory>
+    ensures { IfOk result (λ x. spec.filled_one (e.Binary op one) (spec.filling sort right.now) left.old ≡ (x, left.new)) }
+{
+    match filled_boxed(alloc, sort, right, left) {
+        Ok(right) => Ok(Expr::Binary {
+            op,
+            left: one,
+            right,
+        }),
+        Err(error) => {
+            drop(one);
+            Err(error)
+        }
+    }
+}
+
+/// IN, of what is left of it.
+#[cycle(filled)]
+fn filled_in(
+    alloc: Global,
+    sort: Sort,
+    negated: bool,
+    list: &[Expr],
+    one: Boxed<Expr>,
+    left: &mut Values,
+) -> Result<Expr, NoMemory>
+    ensures { IfOk result (λ x. spec.filled_items (e.InList negated one) sort list.now left.old ≡ (x, left.new)) }
+{
+    match filled_list(alloc, sort, list, left) {
+        Ok(list) => Ok(Expr::InList {
+            negated,
+            left: one,
+            list,
+        }),
+        Err(error) => {
+            drop(one);
+            Err(error)
+        }
+    }
+}
+
+/// BETWEEN, of what stands before its upper bound.
+#[cycle(filled)]
+fn filled_high(
+    alloc: Global,
+    sort: Sort,
+    negated: bool,
+    high: &Expr,
+    one: Boxed<Expr>,
+    low: Boxed<Expr>,
+    left: &mut Values,
+) -> Result<Expr, NoMemory>
+    ensures { IfOk result (λ x. spec.filled_one (e.Between negated one low) (spec.filling sort high.now) left.old ≡ (x, left.new)) }
+{
+    match filled_boxed(alloc, sort, high, left) {
+        Ok(high) => Ok(Expr::Between {
+            negated,
+            left: one,
+            low,
+            high,
+        }),
+        Err(error) => {
+            drop(one);
+            drop(low);
+            Err(error)
+        }
+    }
+}
+
 /// The expression with the next values in place of its nodes.
 #[cycle(filled)]
 pub fn filled(alloc: Global, sort: Sort, expr: &Expr, left: &mut Values) -> Result<Expr, NoMemory>
     ensures { IfOk result (λ x. spec.filled sort expr.now left.old ≡ (x, left.new)) }
 {
     match expr {
-        Expr::Literal(value) => match value.copy(alloc) {
-            Ok(value) => Ok(Expr::Literal(value)),
-            Err(error) => Err(error),
-        },
+        Expr::Literal(value) => copied_literal(alloc, value),
         Expr::Param(name) => filled_parameter(alloc, sort, name, left),
-        Expr::Name(name) => match name.copy(alloc) {
-            Ok(name) => Ok(Expr::Name(name)),
-            Err(error) => Err(error),
-        },
-        Expr::Qualified { table, column } => {
-            match both(table.copy(alloc), column.copy(alloc)) {
-                Ok((table, column)) => Ok(Expr::Qualified { table, column }),
-                Err(error) => Err(error),
-            }
-        }
+        Expr::Name(name) => copied_name(alloc, name),
+        Expr::Qualified { table, column } => copied_qualified(alloc, table, column),
         Expr::CurrentTimestamp => Ok(filled_moment(sort, Expr::CurrentTimestamp, left)),
         Expr::CurrentDate => Ok(filled_moment(sort, Expr::CurrentDate, left)),
         Expr::CurrentTime => Ok(filled_moment(sort, Expr::CurrentTime, left)),
@@ -185,30 +279,16 @@ pub fn filled(alloc: Global, sort: Sort, expr: &Expr, left: &mut Values) -> Resu
             left: one,
             right,
         } => {
-            let one = filled_boxed(alloc, sort, one.get(), left);
-            match both(one, filled_boxed(alloc, sort, right.get(), left)) {
-                Ok((left, right)) => Ok(Expr::Binary {
-                    op: *op,
-                    left,
-                    right,
-                }),
-                Err(error) => Err(error),
-            }
+            let one = filled_boxed(alloc, sort, one.get(), left)?;
+            filled_right(alloc, sort, *op, right.get(), one, left)
         }
         Expr::InList {
             negated,
             left: one,
             list,
         } => {
-            let one = filled_boxed(alloc, sort, one.get(), left);
-            match both(one, filled_list(alloc, sort, list.as_slice(), left)) {
-                Ok((left, list)) => Ok(Expr::InList {
-                    negated: *negated,
-                    left,
-                    list,
-                }),
-                Err(error) => Err(error),
-            }
+            let one = filled_boxed(alloc, sort, one.get(), left)?;
+            filled_in(alloc, sort, *negated, list.as_slice(), one, left)
         }
         Expr::Between {
             negated,
@@ -216,17 +296,13 @@ pub fn filled(alloc: Global, sort: Sort, expr: &Expr, left: &mut Values) -> Resu
             low,
             high,
         } => {
-            let one = filled_boxed(alloc, sort, one.get(), left);
-            let low = filled_boxed(alloc, sort, low.get(), left);
-            let ends = both(low, filled_boxed(alloc, sort, high.get(), left));
-            match both(one, ends) {
-                Ok((left, (low, high))) => Ok(Expr::Between {
-                    negated: *negated,
-                    left,
-                    low,
-                    high,
-                }),
-                Err(error) => Err(error),
+            let one = filled_boxed(alloc, sort, one.get(), left)?;
+            match filled_boxed(alloc, sort, low.get(), left) {
+                Ok(low) => filled_high(alloc, sort, *negated, high.get(), one, low, left),
+                Err(error) => {
+                    drop(one);
+                    Err(error)
+                }
             }
         }
     }

@@ -1,6 +1,6 @@
 //! The text of an error.
 
-ghost use Rattle.std.specs.Prelude.{◌≡◌, ◌++◌, true, codes, decimal, IfOk, OnOk};
+ghost use Rattle.std.specs.Prelude.{◌≡◌, ◌++◌, true, codes, decimal, IfOk, OnOk, OnErr};
 ghost use Rattle.rq_values.specs.Text.{is_plain};
 ghost use Rattle.rq_eval.specs.ErrorText as spec;
 
@@ -213,7 +213,8 @@ impl StmtError {
 
     /// Adds the error as it is shown. With no memory the bytes stay as they were.
     pub fn text(&self, into: &mut Vec<u8>) -> Result<(), NoMemory>
-        ensures { OnOk result (into.new.items ≡ into.old.items ++ spec.error_text self.now) }
+        ensures ok { OnOk result (into.new.items ≡ into.old.items ++ spec.error_text self.now) }
+        ensures err { OnErr result (into.new.items ≡ into.old.items) }
     {
         match self.to_text(*into.allocator()) {
             Ok(text) => {

@@ -1,7 +1,7 @@
--- Without WHERE, ORDER BY and aggregates the first rows are enough.
-use Rattle.std.proofs.Common.{◌≡◌, ℕ, ℤ, ◌+◌, zero, suc, Bool, true, false, T, List, [], ◌∷◌, ◌++◌, map, take, drop, Option, Some, None, Ok, refl, sym, ap, subst, ◌∙◌}
-use Rattle.std.specs.Prelude.{◌&&◌, IfSome}
-use Rattle.std.proofs.lemmas.List.{append-nil, append_assoc, take-map, drop-take}
+-- Without ORDER BY and aggregates the first rows are enough, where WHERE leaves enough of them.
+use Rattle.std.proofs.Common.{◌≡◌, ℕ, ℤ, ◌+◌, ◌≤◌, ◌<◌, zero, suc, Bool, true, false, T, List, [], ◌∷◌, ◌++◌, map, length, take, drop, Option, Some, None, Ok, Err, arith, refl, sym, ap, subst, ◌∙◌}
+use Rattle.std.specs.Prelude.{◌&&◌, if◌then◌else◌, IfSome}
+use Rattle.std.proofs.lemmas.List.{append-nil, append_assoc, take-map, drop-take, take-append-drop, take-append-le, take_all, length-take, length-map, map-append}
 use Rattle.std.specs.declared.cmp.Ordering.{Ordering}
 use Rattle.std.specs.declared.cmp.Ordering.TheVariants.{Less, Equal, Greater}
 use Rattle.std.specs.Ordering.{int_cmp, is_lt, match_ordering, ordering_reverse}
@@ -11,15 +11,15 @@ use Rattle.std.specs.FinMap as fin
 use Rattle.std.specs.FinMap.Entries.{is_sorted, below_all}
 use Rattle.rq_values.specs.declared.value.Value.{Value}
 use Rattle.rq_eval.specs.declared.resolved.ResolvedExpr.{ResolvedExpr}
-use Rattle.rq_eval.specs.Outcome.{Outcome, then_with, all_of, all_behind}
+use Rattle.rq_eval.specs.Outcome.{Outcome, then_with, all_behind}
 use Rattle.rq_eval.specs.Names.{Row}
-use Rattle.rq_results.specs.Table.{Table, as_row, rows_of}
+use Rattle.rq_results.specs.Table.{as_row, rows_of}
 use Rattle.rq_select.specs.declared.planning.Plan.{Plan}
 use Rattle.rq_select.specs.declared.terms.PlannedTerm.{PlannedTerm}
 use Rattle.rq_select.specs.Sorting.{Entry, place_cmp, sorted_among, results_of, in_order}
-use Rattle.rq_select.specs.Select.{Term, at_most, cut, entry_of, filtered, shown_rows}
+use Rattle.rq_select.specs.Select.{Test, cut, entry_of, filtered, shown_rows}
 use Rattle.rq_select.specs.Planned.{passes, gives, term_of, rows_planned}
-use Rattle.rq_select.specs.Keys.{AllPlain}
+use Rattle.rq_select.specs.Keys.{AllPlain, Fine}
 use Rattle.rq_select.specs.Stopping.{IsEnough, IsPlain}
 use Rattle.rq_select.proofs.Picking.{left, right}
 use Rattle.rq_select.proofs.Tests.{plain_list}
@@ -69,6 +69,56 @@ module _ (w : ℤ × List Value → List Value) where
   ordered : (es : Entries) → T (is_sorted int_cmp es) → in_order (map placed es) ≡ map w es
   ordered es s = ap results_of (sorted_end [] es s) ∙ results_are es
 
+-- ---- a WHERE that fails on no row
+
+both : (a b : Bool) → T a → T b → T (a && b)
+both true b p q = q
+both false b p q = p
+
+module _ (p : Test) (fine : Fine p) where
+  -- the entries that pass
+  abbrev if_passes : Bool → ℤ × List Value → Entries → Entries
+  if_passes b x xs = if b then x ∷ xs else xs
+
+  abbrev kept : Entries → Entries
+  kept [] = []
+  kept (x ∷ xs) = if_passes (fine (as_row x)).0 x (kept xs)
+
+  -- what WHERE leaves
+  filtered_is : (ks : List Row) (xs : Entries) → filtered p ks (map as_row xs) ≡ Ok (ks ++ map as_row (kept xs))
+  filtered_is ks [] = ap (λ (zs : List Row). Ok zs) (sym (append-nil ks))
+  filtered_is ks (x ∷ xs) =
+      ap (λ (o : Outcome Bool). then_with o (λ b. filtered p (if b then ks ++ as_row x ∷ [] else ks) (map as_row xs))) (fine (as_row x)).1
+      ∙ by (fine (as_row x)).0 (λ zs. filtered_is zs xs)
+    where
+      by : (b : Bool) → ((zs : List Row) → filtered p zs (map as_row xs) ≡ Ok (zs ++ map as_row (kept xs))) → filtered p (if b then ks ++ as_row x ∷ [] else ks) (map as_row xs) ≡ Ok (ks ++ map as_row (if_passes b x (kept xs)))
+      by true ih = ih (ks ++ as_row x ∷ []) ∙ ap (λ (zs : List Row). Ok zs) (append_assoc ks (as_row x ∷ []) (map as_row (kept xs)))
+      by false ih = ih ks
+
+  kept_below : (k : ℤ) (xs : Entries) → T (below_all int_cmp k xs) → T (below_all int_cmp k (kept xs))
+  kept_below k [] h = tt
+  kept_below k (x ∷ xs) h = by (fine (as_row x)).0 (kept_below k xs (right _ _ h))
+    where
+      by : (b : Bool) → T (below_all int_cmp k (kept xs)) → T (below_all int_cmp k (if_passes b x (kept xs)))
+      by true g = both _ _ (left _ _ h) g
+      by false g = g
+
+  kept_sorted : (xs : Entries) → T (is_sorted int_cmp xs) → T (is_sorted int_cmp (kept xs))
+  kept_sorted [] s = tt
+  kept_sorted (x ∷ xs) s = by (fine (as_row x)).0 (kept_sorted xs (right _ _ s)) (kept_below x.0 xs (left _ _ s))
+    where
+      by : (b : Bool) → T (is_sorted int_cmp (kept xs)) → T (below_all int_cmp x.0 (kept xs)) → T (is_sorted int_cmp (if_passes b x (kept xs)))
+      by true g h = both _ _ h g
+      by false g h = g
+
+  kept_append : (xs ys : Entries) → kept (xs ++ ys) ≡ kept xs ++ kept ys
+  kept_append [] ys = refl
+  kept_append (x ∷ xs) ys = ap (if_passes (fine (as_row x)).0 x) (kept_append xs ys) ∙ by (fine (as_row x)).0
+    where
+      by : (b : Bool) → if_passes b x (kept xs ++ kept ys) ≡ if_passes b x (kept xs) ++ kept ys
+      by true = refl
+      by false = refl
+
 -- ---- results that fail on no row
 
 all_ok : {B : Type 0} (f : Row → Outcome B) (e : ℤ × List Value → B) → ((x : ℤ × List Value) → f (as_row x) ≡ Ok (e x)) → (there : List B) (es : Entries) → all_behind there (map f (map as_row es)) ≡ Ok (there ++ map e es)
@@ -77,10 +127,6 @@ all_ok {B = B} f e same there (x ∷ es) =
     ap (λ (o : Outcome B). then_with o (λ v. all_behind (there ++ v ∷ []) (map f (map as_row es)))) (same x)
     ∙ all_ok f e same (there ++ e x ∷ []) es
     ∙ ap (λ (zs : List B). Ok zs) (append_assoc there (e x ∷ []) (map e es))
-
-all_left : (ks rs : List Row) → filtered (passes None) ks rs ≡ Ok (ks ++ rs)
-all_left ks [] = ap (λ (zs : List Row). Ok zs) (sym (append-nil ks))
-all_left ks (r ∷ rs) = all_left (ks ++ r ∷ []) rs ∙ ap (λ (zs : List Row). Ok zs) (append_assoc ks (r ∷ []) rs)
 
 module _ (es : List ResolvedExpr) (plain : AllPlain es) where
   abbrev ended : ℤ → List Value → Outcome Entry
@@ -92,12 +138,12 @@ module _ (es : List ResolvedExpr) (plain : AllPlain es) where
   entry_is : (x : ℤ × List Value) → entry_of (gives es []) [] (as_row x) ≡ Ok (placed shown_of x)
   entry_is x = ap (λ (o : Outcome (List Value)). then_with o (ended x.0)) (plain_list es plain (as_row x) []).1
 
-  shown_is : (limit : Option ℕ) (offset : ℕ) (xs : Entries) → T (is_sorted int_cmp xs)
-      → then_with (filtered (passes None) [] (map as_row xs)) (λ rows. shown_rows (gives es) [] false limit offset rows) ≡ Ok (cut limit offset (map shown_of xs))
-  shown_is limit offset xs s =
-      ap (λ (o : Outcome (List Row)). then_with o (λ rows. shown_rows (gives es) [] false limit offset rows)) (all_left [] (map as_row xs))
-      ∙ ap (λ (o : Outcome (List Entry)). then_with o (λ ys. Ok (cut limit offset (in_order ys)))) (all_ok (entry_of (gives es []) []) (placed shown_of) entry_is [] xs)
-      ∙ ap (λ (zs : List (List Value)). Ok (cut limit offset zs)) (ordered shown_of xs s)
+  shown_is : (p : Test) (fine : Fine p) (limit : Option ℕ) (offset : ℕ) (xs : Entries) → T (is_sorted int_cmp xs)
+      → then_with (filtered p [] (map as_row xs)) (λ rows. shown_rows (gives es) [] false limit offset rows) ≡ Ok (cut limit offset (map shown_of (kept p fine xs)))
+  shown_is p fine limit offset xs s =
+      ap (λ (o : Outcome (List Row)). then_with o (λ rows. shown_rows (gives es) [] false limit offset rows)) (filtered_is p fine [] xs)
+      ∙ ap (λ (o : Outcome (List Entry)). then_with o (λ ys. Ok (cut limit offset (in_order ys)))) (all_ok (entry_of (gives es []) []) (placed shown_of) entry_is [] (kept p fine xs))
+      ∙ ap (λ (zs : List (List Value)). Ok (cut limit offset zs)) (ordered shown_of (kept p fine xs) (kept_sorted p fine xs s))
 
 -- ---- the first rows
 
@@ -105,19 +151,11 @@ below_take : (k : ℤ) (n : ℕ) (xs : Entries) → T (below_all int_cmp k xs) �
 below_take k zero xs h = tt
 below_take k (suc n) [] h = tt
 below_take k (suc n) (x ∷ xs) h = both _ _ (left _ _ h) (below_take k n xs (right _ _ h))
-  where
-    both : (a b : Bool) → T a → T b → T (a && b)
-    both true b p q = q
-    both false b p q = p
 
 sorted_take : (n : ℕ) (xs : Entries) → T (is_sorted int_cmp xs) → T (is_sorted int_cmp (take n xs))
 sorted_take zero xs s = tt
 sorted_take (suc n) [] s = tt
 sorted_take (suc n) (x ∷ xs) s = both _ _ (below_take x.0 n xs (left _ _ s)) (sorted_take n xs (right _ _ s))
-  where
-    both : (a b : Bool) → T a → T b → T (a && b)
-    both true b p q = q
-    both false b p q = p
 
 take_twice : {A : Type 0} (n : ℕ) (xs : List A) → take n (take n xs) ≡ take n xs
 take_twice {A = A} zero xs = refl
@@ -127,28 +165,62 @@ take_twice {A = A} (suc n) (x ∷ xs) = ap (λ (zs : List A). x ∷ zs) (take_tw
 cut_take : {A : Type 0} (limit offset : ℕ) (xs : List A) → cut (Some limit) offset (take (offset + limit) xs) ≡ cut (Some limit) offset xs
 cut_take limit offset xs = ap (take limit) (drop-take offset limit xs) ∙ take_twice limit (drop offset xs)
 
-enough : (es : List ResolvedExpr) → AllPlain es → (limit offset : ℕ) (xs : Entries) → T (is_sorted int_cmp xs)
-    → then_with (filtered (passes None) [] (take (offset + limit) (map as_row xs))) (λ rows. shown_rows (gives es) [] false (Some limit) offset rows)
-    ≡ then_with (filtered (passes None) [] (map as_row xs)) (λ rows. shown_rows (gives es) [] false (Some limit) offset rows)
-enough es plain limit offset xs s =
-    ap (λ (rs : List Row). then_with (filtered (passes None) [] rs) (λ rows. shown_rows (gives es) [] false (Some limit) offset rows)) (take-map as_row (offset + limit) xs)
-    ∙ shown_is es plain (Some limit) offset (take (offset + limit) xs) (sorted_take (offset + limit) xs s)
-    ∙ ap (λ (zs : List (List Value)). Ok (cut (Some limit) offset zs)) (sym (take-map (shown_of es plain) (offset + limit) xs))
-    ∙ ap (λ (zs : List (List Value)). Ok zs) (cut_take limit offset (map (shown_of es plain) xs))
-    ∙ sym (shown_is es plain (Some limit) offset xs s)
+-- what stands behind enough is cut off
+cut_append : {A : Type 0} (limit offset : ℕ) (xs ys : List A) → offset + limit ≤ length xs → cut (Some limit) offset (xs ++ ys) ≡ cut (Some limit) offset xs
+cut_append limit offset xs ys le =
+    sym (cut_take limit offset (xs ++ ys))
+    ∙ ap (cut (Some limit) offset) (take-append-le (offset + limit) xs ys le)
+    ∙ cut_take limit offset xs
+
+abbrev ok_list : Outcome (List Row) → List Row
+ok_list (Ok rs) = rs
+ok_list (Err e) = []
+
+module _ (es : List ResolvedExpr) (plain : AllPlain es) (p : Test) (fine : Fine p) where
+  kept_enough : (m n : ℕ) (xs : Entries) (rs : List Row) → filtered p [] (map as_row (take m xs)) ≡ Ok rs → n ≤ length rs → n ≤ length (map (shown_of es plain) (kept p fine (take m xs)))
+  kept_enough m n xs rs is le =
+      let same : map as_row (kept p fine (take m xs)) ≡ rs = ap ok_list (sym (filtered_is p fine [] (take m xs)) ∙ is) in
+      let counts : length rs ≡ length (kept p fine (take m xs)) = ap length (sym same) ∙ length-map (kept p fine (take m xs)) as_row in
+      subst (λ (k : ℕ). n ≤ k) (counts ∙ sym (length-map (kept p fine (take m xs)) (shown_of es plain))) le
+
+  enough : (limit offset m : ℕ) (xs : Entries) (rs : List Row) → T (is_sorted int_cmp xs) → filtered p [] (map as_row (take m xs)) ≡ Ok rs → offset + limit ≤ length rs
+      → then_with (filtered p [] (map as_row (take m xs))) (λ rows. shown_rows (gives es) [] false (Some limit) offset rows)
+      ≡ then_with (filtered p [] (map as_row xs)) (λ rows. shown_rows (gives es) [] false (Some limit) offset rows)
+  enough limit offset m xs rs s is le =
+      let first = map (shown_of es plain) (kept p fine (take m xs)) in
+      let others = map (shown_of es plain) (kept p fine (drop m xs)) in
+      let whole : first ++ others ≡ map (shown_of es plain) (kept p fine xs) =
+      sym (map-append (shown_of es plain) (kept p fine (take m xs)) (kept p fine (drop m xs)))
+      ∙ ap (map (shown_of es plain)) (sym (kept_append p fine (take m xs) (drop m xs)) ∙ ap (kept p fine) (take-append-drop m xs)) in
+      shown_is es plain p fine (Some limit) offset (take m xs) (sorted_take m xs s)
+      ∙ ap (λ (zs : List (List Value)). Ok zs) (sym (cut_append limit offset first others (kept_enough m (offset + limit) xs rs is le)) ∙ ap (cut (Some limit) offset) whole)
+      ∙ sym (shown_is es plain p fine (Some limit) offset xs s)
+
+pub fine_without : Fine (passes None)
+fine_without r = (true, refl)
 
 -- of a plan
+abbrev behind_where : Plan → ℕ → List Row → Outcome (List (List Value))
+behind_where p limit rs = then_with (filtered (passes p.filter) [] rs) (λ rows. shown_rows (gives p.results) [] false (Some limit) p.offset rows)
+
+plainly : (p : Plan) (limit : ℕ) → IsPlain p → p.limit ≡ Some limit → (rs : List Row) → rows_planned p rs ≡ behind_where p limit rs
+plainly p limit plain limited rs =
+    ap (λ (ts : List PlannedTerm). then_with (filtered (passes p.filter) [] rs) (λ rows. shown_rows (gives p.results) (map term_of ts) p.over_all p.limit p.offset rows)) plain.terms
+    ∙ ap (λ (g : Bool). then_with (filtered (passes p.filter) [] rs) (λ rows. shown_rows (gives p.results) [] g p.limit p.offset rows)) plain.rows
+    ∙ ap (λ (l : Option ℕ). then_with (filtered (passes p.filter) [] rs) (λ rows. shown_rows (gives p.results) [] false l p.offset rows)) limited
+
 pub enough_rows : (p : Plan) (limit : ℕ) → IsPlain p → p.limit ≡ Some limit → IsEnough p (p.offset + limit)
-enough_rows p limit plain limited t =
-    same (take (p.offset + limit) (rows_of t)) ∙ enough p.results plain.results limit p.offset (fin.entries t.rows) (fin.entries_sorted t.rows) ∙ sym (same (rows_of t))
-  where
-    same : (rs : List Row) → rows_planned p rs ≡ then_with (filtered (passes None) [] rs) (λ rows. shown_rows (gives p.results) [] false (Some limit) p.offset rows)
-    same rs =
-        ap (λ (f : Option ResolvedExpr). then_with (filtered (passes f) [] rs) (λ rows. shown_rows (gives p.results) (map term_of p.terms) p.over_all p.limit p.offset rows)) plain.filter
-        ∙ ap (λ (ts : List PlannedTerm). then_with (filtered (passes None) [] rs) (λ rows. shown_rows (gives p.results) (map term_of ts) p.over_all p.limit p.offset rows)) plain.terms
-        ∙ ap (λ (g : Bool). then_with (filtered (passes None) [] rs) (λ rows. shown_rows (gives p.results) [] g p.limit p.offset rows)) plain.rows
-        ∙ ap (λ (l : Option ℕ). then_with (filtered (passes None) [] rs) (λ rows. shown_rows (gives p.results) [] false l p.offset rows)) limited
+enough_rows p limit plain limited t m h =
+    let es = fin.entries t.rows in
+    plainly p limit plain limited (take m (rows_of t))
+    ∙ ap (behind_where p limit) (take-map as_row m es)
+    ∙ enough p.results plain.results (passes p.filter) plain.filter limit p.offset m es h.0 (fin.entries_sorted t.rows) (ap (filtered (passes p.filter) []) (sym (take-map as_row m es)) ∙ h.1) h.2
+    ∙ sym (plainly p limit plain limited (rows_of t))
 
 pub enough_if_some : (p : Plan) (limit : ℕ) → IsPlain p → p.limit ≡ Some limit → (o : Option ℕ) → IfSome o (λ n. n ≡ p.offset + limit) → IfSome o (IsEnough p)
 enough_if_some p limit plain limited None h = h
 enough_if_some p limit plain limited (Some n) h = subst (IsEnough p) (sym h) (enough_rows p limit plain limited)
+
+-- where fewer rows came than were asked for, they are all
+pub all_came : {A : Type 0} (m : ℕ) (xs : List A) → length (take m xs) < m → take m xs ≡ xs
+all_came m xs lt = take_all m xs (omega (arith, length-take m xs, lt))

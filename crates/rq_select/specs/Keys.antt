@@ -1,11 +1,13 @@
 -- Conditions that fail on no row, and the value that they want in a column.
-use Rattle.std.specs.Prelude.{◌≡◌, ℕ, ℤ, Bool, true, false, List, [], ◌∷◌, Option, Some, None, Ok}
+use Rattle.std.specs.Prelude.{◌≡◌, ℕ, ℤ, Bool, true, false, List, [], ◌∷◌, map, Option, Some, None, Result, Ok, Err, Vec}
 use Rattle.std.specs.FinMap as fin
+use Rattle.rq_values.specs.declared.memory.NoMemory.{NoMemory}
 use Rattle.rq_values.specs.declared.value.Value.{Value}
 use Rattle.rq_eval.specs.declared.resolved.ResolvedExpr.{ResolvedExpr}
 use Rattle.rq_grammar.specs.declared.expr.BinaryOp.{BinaryOp}
 use Rattle.rq_grammar.specs.declared.expr.BinaryOp.TheVariants as op
 use Rattle.rq_eval.specs.declared.resolved.ResolvedExpr.TheVariants as expr
+use Rattle.rq_eval.specs.declared.row.RowView.{RowView}
 use Rattle.rq_eval.specs.Outcome.{Outcome}
 use Rattle.rq_operators.specs.Operators.{truth, condition}
 use Rattle.rq_eval.specs.Names.{Row, row_of, value_at}
@@ -118,3 +120,9 @@ or_none (Some r) = r ∷ []
 -- of some rows WHERE leaves what it leaves of all rows of the table
 abbrev pub Left : Option ResolvedExpr → List Row → Table → Type 0
 Left f rows t = filtered (passes f) [] rows ≡ filtered (passes f) [] (rows_of t)
+
+-- rows that are found, if any are
+abbrev pub FindsRows : {Z : Type 0} → Option ResolvedExpr → Table → Result (Option (Vec RowView Z)) NoMemory → Type 0
+FindsRows f t (Ok (Some rows)) = Left f (map row_of rows.items) t
+FindsRows f t (Ok None) = Unit {0}
+FindsRows f t (Err e) = Unit {0}

@@ -187,24 +187,47 @@ fn one_row<'t>(alloc: Global, row: RowView<'t>) -> Result<Vec<RowView<'t>>, NoMe
     }
 }
 
-/// The rows for which a condition that fails on no row can be true.
+/// The rows for which a condition that fails on no row can be true, where the table tells them.
 #[tactic(auto, using(crate::proofs::Tests::left_by_none, crate::proofs::Tests::left_by_one))]
-fn rows_of_test<'t, T: TableView>(
+fn found_by_test<'t, T: TableView>(
     alloc: Global,
     expr: &ResolvedExpr,
     table: &'t T,
-) -> Result<Vec<RowView<'t>>, NoMemory>
+) -> Result<Option<Vec<RowView<'t>>>, NoMemory>
     requires { spec.AlwaysTest expr.now }
-    ensures { IfOk result (λ rows. spec.Left (Some expr.now) (map row_of rows.items) (T.means table.now)) }
+    ensures { spec.FindsRows (Some expr.now) (T.means table.now) result }
 {
     match look_up(expr, table) {
-        Lookup::Unknown => table.rows(alloc, None),
-        Lookup::NoRow => Ok(Vec::new(alloc)),
-        Lookup::Row(row) => one_row(alloc, row),
+        Lookup::Unknown => Ok(None),
+        Lookup::NoRow => Ok(Some(Vec::new(alloc))),
+        Lookup::Row(row) => match one_row(alloc, row) {
+            Ok(rows) => Ok(Some(rows)),
+            Err(e) => Err(e),
+        },
     }
 }
 
-/// The rows that WHERE is to be evaluated over: all of them, or none or one, where it fails on no row and the table tells the one that it wants.
+/// None or one row, where WHERE fails on no row and the table tells the one that it wants: what WHERE leaves of all rows it leaves of these.
+pub fn found_rows<'t, T: TableView>(
+    alloc: Global,
+    filter: &Option<ResolvedExpr>,
+    table: &'t T,
+) -> Result<Option<Vec<RowView<'t>>>, NoMemory>
+    ensures { spec.FindsRows filter.now (T.means table.now) result }
+{
+    match filter {
+        Some(expr) => {
+            if is_test(expr) {
+                found_by_test(alloc, expr, table)
+            } else {
+                Ok(None)
+            }
+        }
+        None => Ok(None),
+    }
+}
+
+/// The rows that WHERE is to be evaluated over: those that are found, or else all.
 pub fn rows_for<'t, T: TableView>(
     alloc: Global,
     filter: &Option<ResolvedExpr>,
@@ -212,14 +235,9 @@ pub fn rows_for<'t, T: TableView>(
 ) -> Result<Vec<RowView<'t>>, NoMemory>
     ensures { IfOk result (λ rows. spec.Left filter.now (map row_of rows.items) (T.means table.now)) }
 {
-    match filter {
-        Some(expr) => {
-            if is_test(expr) {
-                rows_of_test(alloc, expr, table)
-            } else {
-                table.rows(alloc, None)
-            }
-        }
-        None => table.rows(alloc, None),
+    match found_rows(alloc, filter, table) {
+        Ok(Some(rows)) => Ok(rows),
+        Ok(None) => table.rows(alloc, None),
+        Err(e) => Err(e),
     }
 }

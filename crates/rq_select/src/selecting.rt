@@ -1,19 +1,20 @@
 //! SELECT.
 
-ghost use Rattle.std.specs.Prelude.{map, Ok, Err};
+ghost use Rattle.std.specs.Prelude.{map, Ok, IfSome};
 ghost use Rattle.std.specs.Option.{option_map, option_copied};
 ghost use Rattle.rq_eval.specs.Names.{row_of};
 ghost use Rattle.rq_eval.specs.Outcome.{Answers};
 ghost use Rattle.rq_results.specs.Results.{no_source, table_source, no_such_table};
 ghost use Rattle.rq_select.specs.Planned as planned;
 ghost use Rattle.rq_select.specs.Select as spec;
-ghost use Rattle.rq_select.specs.Stopping.{IsEnough};
+ghost use Rattle.rq_select.specs.Stopping.{IsEnough, LeavesEnough};
 ghost use Rattle.rq_results.specs.Table.{scope_of, rows_of};
 ghost use Rattle.rq_results.specs.Viewed.{shown, IsSaid};
 
-use crate::keys::rows_for;
+use crate::filtering::filtered;
+use crate::keys::found_rows;
 use crate::planning::{Plan, plan_of};
-use crate::showing::rows_planned;
+use crate::showing::{rows_planned, shown_rows};
 use crate::stopping::enough_rows;
 use crate::table::TableView;
 use rq_eval::{EvalError, RowView, Scope, StmtError, names_are_found_once};
@@ -22,6 +23,11 @@ use rq_results::{Shown, headings, spread, types};
 use rq_statement::Res;
 use rq_values::{Seq, Text, TryCopy, Value};
 use std::alloc::Global;
+
+/// How many times as many rows are asked for, where WHERE left too few; and how often.
+const GROWTH: usize = 4;
+
+const ROUNDS: u32 = 32;
 
 /// The rows with headings and types.
 fn with_headings(
@@ -110,33 +116,97 @@ fn selected_from_nothing(alloc: Global, stmt: &SelectStmt) -> Result<Res, EvalEr
     }
 }
 
-/// What a plan shows of the rows of a table that its WHERE is to be evaluated over.
-fn shown_of_found<T: TableView>(
+/// What a plan shows of rows, where WHERE leaves enough of them.
+fn shown_if_enough(
+    alloc: Global,
+    plan: &Plan,
+    rows: &[RowView<'_>],
+    wanted: usize,
+) -> Option<Result<Seq<Seq<Value>>, EvalError>>
+    ensures { IfSome result (λ shown. LeavesEnough plan.now wanted (map row_of rows.now) × Answers (planned.rows_planned plan.now (map row_of rows.now)) shown) }
+{
+    match filtered(alloc, &plan.filter, rows) {
+        Ok(left) => {
+            if left.len() >= wanted {
+                Some(shown_rows(alloc, plan, left.as_slice()))
+            } else {
+                None
+            }
+        }
+        Err(e) => {
+            drop(e);
+            None
+        }
+    }
+}
+
+/// What a plan shows of a table, where its first rows are enough, or there are no others.
+fn shown_of_first<T: TableView>(
+    alloc: Global,
+    plan: &Plan,
+    table: &T,
+    wanted: usize,
+    most: usize,
+) -> Option<Result<Seq<Seq<Value>>, EvalError>>
+    requires { IsEnough plan.now wanted }
+    ensures { IfSome result (Answers (planned.rows_planned plan.now (rows_of (T.means table.now)))) }
+{
+    match table.rows(alloc, Some(most)) {
+        Ok(rows) => {
+            if rows.len() < most {
+                Some(rows_planned(alloc, plan, rows.as_slice()))
+            } else {
+                shown_if_enough(alloc, plan, rows.as_slice(), wanted)
+            }
+        }
+        Err(_) => Some(Err(EvalError::NoMemory)),
+    }
+}
+
+fn shown_of_all<T: TableView>(
     alloc: Global,
     plan: &Plan,
     table: &T,
 ) -> Result<Seq<Seq<Value>>, EvalError>
     ensures { Answers (planned.rows_planned plan.now (rows_of (T.means table.now))) result }
 {
-    match rows_for(alloc, &plan.filter, table) {
+    match table.rows(alloc, None) {
         Ok(rows) => rows_planned(alloc, plan, rows.as_slice()),
         Err(_) => Err(EvalError::NoMemory),
     }
 }
 
-/// What a plan shows of the first rows of a table, which are enough.
-fn shown_of_first<T: TableView>(
+/// What a plan shows of a table, which is asked for more and more rows until WHERE leaves enough.
+fn shown_of_enough<T: TableView>(
     alloc: Global,
     plan: &Plan,
     table: &T,
-    most: usize,
+    wanted: usize,
 ) -> Result<Seq<Seq<Value>>, EvalError>
-    requires { IsEnough plan.now most }
+    requires { IsEnough plan.now wanted }
     ensures { Answers (planned.rows_planned plan.now (rows_of (T.means table.now))) result }
 {
-    match table.rows(alloc, Some(most)) {
-        Ok(rows) => rows_planned(alloc, plan, rows.as_slice()),
-        Err(_) => Err(EvalError::NoMemory),
+    let mut most = wanted;
+    for _ in 0..ROUNDS {
+        match shown_of_first(alloc, plan, table, wanted, most) {
+            Some(shown) => return shown,
+            None => most = most.saturating_mul(GROWTH),
+        }
+    }
+    shown_of_all(alloc, plan, table)
+}
+
+/// What a plan shows of a table whose rows aren't found by a key.
+fn shown_of_walked<T: TableView>(
+    alloc: Global,
+    plan: &Plan,
+    table: &T,
+) -> Result<Seq<Seq<Value>>, EvalError>
+    ensures { Answers (planned.rows_planned plan.now (rows_of (T.means table.now))) result }
+{
+    match enough_rows(plan) {
+        Some(wanted) => shown_of_enough(alloc, plan, table, wanted),
+        None => shown_of_all(alloc, plan, table),
     }
 }
 
@@ -148,9 +218,10 @@ fn shown_of_table<T: TableView>(
 ) -> Result<Seq<Seq<Value>>, EvalError>
     ensures { Answers (planned.rows_planned plan.now (rows_of (T.means table.now))) result }
 {
-    match enough_rows(plan) {
-        Some(most) => shown_of_first(alloc, plan, table, most),
-        None => shown_of_found(alloc, plan, table),
+    match found_rows(alloc, &plan.filter, table) {
+        Ok(Some(rows)) => rows_planned(alloc, plan, rows.as_slice()),
+        Ok(None) => shown_of_walked(alloc, plan, table),
+        Err(_) => Err(EvalError::NoMemory),
     }
 }
 

@@ -273,7 +273,7 @@ fn shown(
 }
 
 /// What is shown of the rows that are left by WHERE.
-fn shown_rows(
+pub fn shown_rows(
     alloc: Global,
     plan: &Plan,
     left: &[RowView<'_>],

@@ -8,7 +8,9 @@ mod errors;
 mod mem_table;
 #[cfg(test)]
 mod tables;
+mod unique_table;
 #[cfg(test)]
-mod unwalked;
+mod walked;
 
 pub use mem_table::MemTable;
+pub use unique_table::UniqueTable;

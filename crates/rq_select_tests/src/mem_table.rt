@@ -1,11 +1,13 @@
 //! A table in memory.
 
-ghost use Rattle.std.specs.Prelude.{◌≡◌, true, map, take, IfOk};
+ghost use Rattle.std.specs.Prelude.{◌≡◌, true, [], map, take, IfOk};
+ghost use Rattle.std.specs.Ordering.{int_cmp};
+ghost use Rattle.std.specs.BTreeMap.{IsOrdered};
 ghost use Rattle.rq_values.specs.declared.value.Value.TheVariants as value;
 ghost use Rattle.rq_eval.specs.Names.{row_of as view_row, value_at};
 ghost use Rattle.rq_results.specs.Table.{as_row};
 ghost use Rattle.rq_select.specs.Finding.{Finds};
-ghost use Rattle.rq_select_tests.specs.Keyed.{IsKeyed};
+ghost use Rattle.rq_select_tests.specs.Keyed.{IsKeyed, IsAdded};
 ghost use Rattle.rq_select_tests.specs.Naming.{IsNamed, names_of};
 
 use rq_eval::{RowView, Scope};
@@ -85,7 +87,9 @@ impl MemTable {
     }
 
     /// Puts a row in, or answers that it doesn't have its rowid in the place for it.
-    pub fn insert(&mut self, rowid: i64, values: Seq<Value>) -> Result<bool, NoMemory> {
+    pub fn insert(&mut self, rowid: i64, values: Seq<Value>) -> Result<bool, NoMemory>
+        ensures { IsAdded self.old.rows self.new.rows rowid values }
+    {
         if is_keyed(self.key, rowid, values.as_slice()) {
             self.rows.insert(rowid, values)?;
             Ok(true)
@@ -93,6 +97,19 @@ impl MemTable {
             drop(values);
             Ok(false)
         }
+    }
+
+    pub fn is_empty(&self) -> bool
+        ensures { result ≡ true → self.now.rows.entries ≡ [] }
+    {
+        self.rows.is_empty()
+    }
+
+    /// Changes nothing: the rows are in rising rowid.
+    pub fn know_ordered(&self)
+        ensures { IsOrdered int_cmp self.now.rows }
+    {
+        let _count = self.rows.len();
     }
 
     /// The rows in rising rowid, no more than so many.
@@ -116,7 +133,7 @@ impl MemTable {
     ghost use Rattle.rq_select_tests.specs.Meaning.{table};
 
     /// The row that has its rowid at the place for it.
-    fn row_at(&self, rowid: &i64) -> Lookup<'_>
+    pub fn row_at(&self, rowid: &i64) -> Lookup<'_>
         ensures { Finds (table self.now) self.now.key (value.Int rowid.now) result }
     {
         let _count = self.rows.len();

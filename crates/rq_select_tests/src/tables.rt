@@ -1,5 +1,6 @@
 //! The tables of the tests, made from their CREATE and INSERT.
 use crate::mem_table::MemTable;
+use crate::unique_table::UniqueTable;
 use rq_grammar::{ColumnDef, Expr, InsertRows, Stmt};
 use rq_sql::read;
 use rq_values::{Seq, TryCopy, Value};
@@ -101,6 +102,26 @@ pub fn codes(alloc: Global) -> Result<MemTable, Fail> {
     let mut table = created(alloc, CODES, 2)?;
     let mut rowid = 0i64;
     for row in rows_in(alloc, CODES_ROWS)? {
+        rowid = rowid.saturating_add(1);
+        table.insert(rowid, row)?;
+    }
+    Ok(table)
+}
+
+pub const TAGS: &str = "CREATE TABLE tags (id INTEGER PRIMARY KEY, code INTEGER UNIQUE, name TEXT)";
+
+pub const TAGS_ROWS: &str =
+    "INSERT INTO tags VALUES (1, 30, 'a'), (2, NULL, 'b'), (3, 10, 'c'), (4, NULL, 'd'), (5, 20, 'e')";
+
+/// The tags, which are found by their code.
+pub fn tags(alloc: Global) -> Result<UniqueTable, Fail> {
+    let empty = created(alloc, TAGS, 0)?;
+    let mut table = match UniqueTable::new(alloc, empty, 1) {
+        Some(table) => table,
+        None => return Err(Fail::from("an empty table")),
+    };
+    let mut rowid = 0i64;
+    for row in rows_in(alloc, TAGS_ROWS)? {
         rowid = rowid.saturating_add(1);
         table.insert(rowid, row)?;
     }

@@ -1,4 +1,4 @@
-use Rattle.std.proofs.Common.{sym, ap, ◌∙◌, map, take, List, ℤ}
+use Rattle.std.proofs.Common.{sym, ap, ◌∙◌, map, take}
 use Rattle.rq_results.specs.Table.{as_row, rows_of}
 use Rattle.rq_select.specs.Select.{at_most}
 use Rattle.rq_select_tests.specs.Meaning.{table}
