@@ -6,3 +6,5 @@ mod Corrected
 mod Committing
 mod Rules
 mod Applying
+mod Lookups
+mod Durable

@@ -1,2 +1,4 @@
 pub mod Asks
 pub mod Fast
+pub mod Lookups
+pub mod Durable

@@ -12,6 +12,7 @@ mod appending;
 mod delivering;
 mod electing;
 mod leading;
+mod lookups;
 
 use rq_log::{Log, LogEntry, Moves, Outgoing, Saying, State, Table};
 use rq_raft::{Peer, Role};

@@ -9,6 +9,8 @@ mod kept;
 #[cfg(test)]
 mod line;
 #[cfg(test)]
+mod lookups;
+#[cfg(test)]
 mod net;
 #[cfg(test)]
 mod reading;

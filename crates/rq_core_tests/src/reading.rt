@@ -1,5 +1,6 @@
 //! Reads by a pass at a leader, and calls that no other test makes.
 use crate::following::answers_are_right;
+use crate::lookups::lookups_are_right;
 use crate::net::{Net, id_of};
 use rq_core::Core;
 use rq_log::{Message, Packet};
@@ -101,7 +102,7 @@ fn outcomes(alloc: Global, net: &mut Net) -> Result<([bool; 3], [bool; 3], [u64;
 }
 
 /// A pass counts replies to what was sent with it or later; a follower is fresh within a limit; a copy stands alike; a follower takes
-/// an append where it has the entry before.
+/// an append where it has the entry before; a core tells what it is asked.
 #[test]
 fn single_calls(rt: HostRuntime) -> Result<(), Fail> {
     let mut net = led(rt.alloc())?;
@@ -109,5 +110,6 @@ fn single_calls(rt: HostRuntime) -> Result<(), Fail> {
     drop(net);
     let expected = ([false, false, true], [true, false, true], [1, 1, 1, 1], 0);
     assert!(rt; outcomes? == expected && answers_are_right(rt.alloc())?);
+    assert!(rt; lookups_are_right(rt.alloc())?);
     Ok(())
 }

@@ -1,6 +1,7 @@
 mod Choices
 mod Logs
 mod Configs
+mod Upto
 mod Newest
 mod Sendings
 mod Replying

@@ -5,6 +5,8 @@ ghost use Rattle.rq_raft.specs.Entries.{entry_view};
 ghost use Rattle.rq_history.specs.History.{term_at, entry_at};
 ghost use Rattle.rq_history.specs.Configurations.{configuration_index, is_configuration, is_given, greatest};
 
+mod upto;
+
 use crate::entry::LogEntry;
 use rq_values::{NoMemory, TryCopy};
 use std::alloc::Global;

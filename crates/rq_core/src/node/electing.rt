@@ -147,14 +147,14 @@ impl<E: LogEntry> Core<E> {
         }
     }
 
-    fn is_newer(&self, last_index: u64, of_term: u64) -> bool
+    pub(super) fn is_newer(&self, last_index: u64, of_term: u64) -> bool
         ensures { result ≡ is_newer E.entries self.now.first self.now.node last_index of_term }
     {
         let own = self.last_term();
         own < of_term || (own == of_term && self.last() <= last_index)
     }
 
-    fn grants(&self, from: Id, term: u64, last_index: u64, of_term: u64) -> bool
+    pub(super) fn grants_in_term(&self, from: Id, term: u64, last_index: u64, of_term: u64) -> bool
         ensures { result ≡ grants E.entries self.now.first self.now.node (signed from term) last_index of_term }
     {
         self.state.term == term && self.may_vote(from) && self.is_newer(last_index, of_term)
@@ -171,7 +171,7 @@ impl<E: LogEntry> Core<E> {
         ensures before { self.new.before ≡ self.old.before }
         ensures first { self.new.first ≡ self.old.first }
     {
-        if self.grants(from, term, last_index, of_term) {
+        if self.grants_in_term(from, term, last_index, of_term) {
             let packets = self.say(from, Saying::VoteSay { granted: true })?;
             self.state.vote = Some(from);
             Ok(self.only(packets))
