@@ -1,0 +1,12 @@
+pub mod Counted
+pub mod Inserted
+pub mod Judged
+pub mod Lookups
+pub mod Named
+pub mod Numbered
+pub mod Selected
+pub mod Steps
+pub mod Stored
+pub mod Sums
+pub mod Texts
+pub mod Updated

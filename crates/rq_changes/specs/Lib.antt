@@ -1,0 +1,4 @@
+pub mod Making
+pub mod Staged
+pub mod Stepping
+pub mod Walking
