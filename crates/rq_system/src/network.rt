@@ -10,9 +10,9 @@ pub trait Listener {
     /// How often it has failed. It never falls.
     ghost faults: { Self → ℕ };
 
-    type In: Source + Drop + Send + 'static;
+    type In: Source + Drop + 'static;
 
-    type Out: Sink + Drop + Send + 'static;
+    type Out: Sink + Drop + 'static;
 
     /// What a fault leaves to be shown.
     type Fault: Copy + Drop + Send + 'static;
@@ -31,7 +31,11 @@ pub trait Network {
     /// How often it has failed. It never falls.
     ghost faults: { Self → ℕ };
 
-    type L: Listener + Drop + Send + 'static;
+    type In: Source + Drop + Send + 'static;
+
+    type Out: Sink + Drop + Send + 'static;
+
+    type L: Listener<In = Self::In, Out = Self::Out> + Drop + Send + 'static;
 
     /// What a fault leaves to be shown.
     type Fault: Copy + Drop + Send + 'static;

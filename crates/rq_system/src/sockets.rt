@@ -188,6 +188,10 @@ fn bound<R: net::Net<Listener = TcpListener, Stream = TcpStream>>(
 impl<R: net::Net<Listener = TcpListener, Stream = TcpStream>> Network for TcpNetwork<R> {
     ghost faults = { λ s. s.faults.count };
 
+    type In = Incoming;
+
+    type Out = Outgoing;
+
     type L = TcpConnections;
 
     type Fault = SystemFault;

@@ -1,6 +1,7 @@
 //! rqlite: a relational database that several servers keep together.
 //!
-//! `rqlite cluster` runs the script of its standard input on disks in memory: docs/SCRIPT.md.
+//! `rqlite node` serves a node over HTTP: docs/SERVING.md. `rqlite cluster` runs the script of its standard input on
+//! disks in memory: docs/SCRIPT.md.
 #![tactic(auto)]
 
 ghost use Rattle.std.specs.Prelude.{IfOk};
@@ -17,6 +18,7 @@ use std::io::Write;
 use std::process::ExitCode;
 
 mod command_line;
+mod node;
 mod random_words;
 mod standard_input;
 mod standard_output;
@@ -30,15 +32,17 @@ const OUT_OF_MEMORY: u8 = 6;
 const USAGE: &str = "usage: rqlite cluster < SCRIPT";
 
 const HELP: &str = "usage: rqlite cluster < SCRIPT
+       rqlite node --id ID --http HOST:PORT --raft HOST:PORT --dir DIR --first ID=HTTP/RAFT
 
-Runs the script of standard input on disks in memory, and writes what happens to standard output.
+cluster runs the script of standard input on disks in memory, and writes what happens to standard output.
 docs/SCRIPT.md has the lines of a script, and examples/ has three.
+node serves a node over HTTP, with its log in a directory. docs/SERVING.md has its words and the status of each end.
 
   --help     prints this
   --version  prints the version
 
-status: 0, the script was done; 2, wrong words; 3, it was stopped at a line; 4, reading failed; 5, writing failed;
-6, memory was wanting. Standard error has the reason.";
+status of cluster: 0, the script was done; 2, wrong words; 3, it was stopped at a line; 4, reading failed; 5, writing
+failed; 6, memory was wanting. Standard error has the reason.";
 
 const VERSION: &str = "rqlite 0.1.0 (Lidzgora)";
 
@@ -50,6 +54,8 @@ fn main(rt: HostRuntime) -> ExitCode {
         print(&rt, HELP)
     } else if is_only(&words, b"--version") {
         print(&rt, VERSION)
+    } else if is_first(&words, b"node") {
+        node::run_node(rt, rt.alloc(), &words)
     } else {
         explained(&rt, &words)
     };
@@ -62,6 +68,14 @@ fn is_only(words: &[Word], option: &[u8]) -> bool {
     match words {
         [word] => word.bytes() == option,
         _ => false,
+    }
+}
+
+/// Whether this is the first word of the command line.
+fn is_first(words: &[Word], name: &[u8]) -> bool {
+    match words {
+        [word, ..] => word.bytes() == name,
+        [] => false,
     }
 }
 
