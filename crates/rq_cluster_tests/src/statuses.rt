@@ -220,7 +220,7 @@ const REQUESTS: [Plain; 7] = [
         &[b"cluster"],
         b"cluster n1\nelect n1\nask n1 POST /db/execute [\"DROP TABLE foo\"]\napply n1\nbeat n1\n",
         3,
-        b"up n1 boot 1 term 0 last 0\nanswer 1 200 {\"results\":[{\"error\":\"not built\"}]}\nstopped: line 5\n",
+        b"up n1 boot 1 term 0 last 0\nanswer 1 200 {\"results\":[{\"error\":\"no such table: foo\"}]}\nstopped: line 5\n",
     ),
     (
         &[b"cluster"],

@@ -1,3 +1,1 @@
-pub mod SizeLemmas
-pub mod Statements
-pub mod Texts
+mod Keeping

@@ -1,9 +1,11 @@
 -- Fold: what the commands of a log make of a replica, and what each of them answers.
 -- Source: the extended Raft paper, section 2 (replicated state machines) and section 8 (serial numbers); ours: the kinds of commands.
 use Rattle.std.specs.Prelude.{ℕ, Bool, true, ◌&&◌, ◌||◌, ◌==◌, nat_lt, if◌then◌else◌, List, [], ◌∷◌, filter, Option, Some, None}
+use Rattle.std.specs.FinMap as fin
 use Rattle.std.specs.Map.{lookup}
 use Rattle.std.specs.BTreeMap.{insert_entry, is_at}
 use Rattle.std.specs.BTreeSet.{insert_key}
+use Rattle.std.specs.List.{list_any}
 use Rattle.rq_statement.specs.declared.item.Item.{Item}
 use Rattle.rq_statement.specs.Statements.{Statements}
 use Rattle.rq_statement.specs.declared.res.Res.{Res}
@@ -11,9 +13,8 @@ use Rattle.rq_statement.specs.declared.command.Command.{Command}
 use Rattle.rq_statement.specs.declared.command.Command.TheVariants.{NoOp, Config, Execute, Request, StrongQuery, Load, Batch, Once}
 use Rattle.rq_engine.specs.declared.outcome.Outcome.{Outcome}
 use Rattle.rq_engine.specs.declared.outcome.Outcome.TheVariants.{Results, Loaded, Nothing, Stale}
-use Rattle.rq_engine.specs.Database.{name_cmp, Database}
-use Rattle.rq_engine.specs.Meaning.{means, answers}
-use Rattle.rq_engine.specs.Lists.{means_or_answers, is_error, all_or_none, list_run, after_lists}
+use Rattle.rq_meaning.specs.Database.{name_cmp, Database}
+use Rattle.rq_meaning.specs.Lists.{means, answers, means_or_answers, is_error, all_or_none, list_run, after_lists}
 
 -- of each server whose lists were sent on, the count of boots and the number of its last list that ran, in rising order of ids
 abbrev pub Marks : Type 0
@@ -27,6 +28,9 @@ pub record State : Type 0 where
 abbrev pub with_ids : List (List ℕ) → List (List ℕ) → List (List ℕ)
 with_ids ids [] = ids
 with_ids ids (id ∷ more) = with_ids (insert_key name_cmp ids id) more
+
+abbrev pub has_id : State → List ℕ → Bool
+has_id s id = list_any (is_at (name_cmp id)) s.ids
 
 -- ---- lists that were sent on
 
@@ -73,7 +77,7 @@ run s (Once id boot number list) = run_once s id boot number list
 
 -- before all commands: no tables, no marks, and the ids of the first configuration
 unfoldable pub first : List (List ℕ) → State
-first ids = record { database = []; marks = []; ids = with_ids [] ids }
+first ids = record { database = fin.empty; marks = []; ids = with_ids [] ids }
 
 abbrev pub after : State → List Command → State
 after s [] = s

@@ -1,5 +1,3 @@
-pub mod Database
+pub mod Coding
 pub mod Fold
-pub mod Lists
-pub mod Meaning
-pub mod Running
+pub mod Proper

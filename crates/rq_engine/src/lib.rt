@@ -1,20 +1,12 @@
-//! The engine: what a statement means, and the tables of a replica.
+//! What the commands of a log make of a replica, and what an engine promises of it.
 //!
-//! docs/SQL.md, "Statements that run today", has the rules.
+//! The fold of a log stands in `specs/Fold.antt`; what statements mean, in `rq_meaning`.
 #![tactic(auto)]
 
-mod creating;
-mod inserting;
-mod messages;
+mod laws;
 mod outcome;
-mod refusal;
 mod replica;
-mod sizes;
-mod table;
-mod table_key;
-mod tables;
-mod valuing;
 
+pub use laws::commands_keep_a_database_valid;
 pub use outcome::Outcome;
-pub use replica::Replica;
-pub use tables::Tables;
+pub use replica::{Engine, Replica, SharedEngine};

@@ -1,82 +1,59 @@
-//! A replica: what the commands of a log made of the first state.
-ghost use Rattle.std.specs.Prelude.{◌≡◌, false, IfOk};
-ghost use Rattle.rq_statement.specs.declared.command.Command.TheVariants as command;
-ghost use Rattle.rq_engine.specs.declared.outcome.Outcome.TheVariants as outcome;
-ghost use Rattle.rq_engine.specs.Database.{name_cmp};
-ghost use Rattle.rq_engine.specs.Fold as spec;
+//! What an engine promises.
+ghost use Rattle.std.specs.Prelude.{◌≡◌, List, length, map, IfOk, OnErr};
+ghost use Rattle.std.specs.List.{list_any};
+ghost use Rattle.rq_statement.specs.declared.item.Item.{Item as AnItem};
+ghost use Rattle.rq_engine.specs.Fold as fold;
 
-use crate::tables::Tables;
-use rq_statement::{Item, Res};
+use crate::outcome::Outcome;
+use rq_statement::{Command, Item, Res};
 use rq_values::{Id, NoMemory, Seq};
 use std::alloc::Global;
-use std::collections::BTreeSet;
-use std::marker::Model;
 
-/// The state that the commands of a log made. No command that is built yet changes the marks of lists that were sent on.
-pub struct Replica {
-    tables: Tables,
-    ids: BTreeSet<Id>,
+/// The state that the commands of a log made.
+pub trait Replica {
+    /// The state of the fold for which it stands.
+    ghost state: { Self → fold.State };
+
+    /// Runs a command of the log. With no memory nothing has happened.
+    fn apply(&mut self, alloc: Global, command: &Command) -> Result<Outcome, NoMemory>
+        ensures ran { IfOk result (λ outcome. fold.run (state self.old) command.now ≡ (state self.new, outcome)) }
+        ensures err { OnErr result (state self.new ≡ state self.old) };
+
+    /// Runs a command, and answers lists of queries behind it. With no memory nothing has happened.
+    fn apply_then(
+        &mut self,
+        alloc: Global,
+        command: &Command,
+        reads: &[Seq<Item>],
+    ) -> Result<(Outcome, Seq<Seq<Res>>), NoMemory>
+        ensures ran { IfOk result (λ r. fold.run (state self.old) command.now ≡ (state self.new, r.0)) }
+        ensures answers { IfOk result (λ r. r.1 ≡ map (fold.answer (state self.new)) reads.now) }
+        ensures err { OnErr result (state self.new ≡ state self.old) };
+
+    /// Answers queries. This changes nothing.
+    fn query(&mut self, alloc: Global, items: &[Item]) -> Result<Seq<Res>, NoMemory>
+        ensures answers { IfOk result (λ results. results ≡ fold.answer (state self.old) items.now) }
+        ensures same { state self.new ≡ state self.old };
+
+    /// Whether a server of that id ever was in a configuration.
+    fn has_id(&self, id: &Id) -> bool
+        ensures { result ≡ fold.has_id (state self.now) id.now };
+
+    /// How many ids ever were in a configuration.
+    fn id_count(&self) -> usize
+        ensures { result ≡ length (state self.now).ids };
 }
 
-impl Model for Replica {
-    ghost use Rattle.std.specs.Prelude.{[]};
-    ghost use Rattle.rq_engine.specs.Fold.{State};
-
-    ghost Value = { State };
-
-    ghost view = { λ r. record { database = r.tables; marks = []; ids = r.ids.keys } };
-}
-
-impl Drop for Replica {
-    fn drop(self) {
-        let Replica { tables, ids } = self;
-        drop(tables);
-        drop(ids);
-    }
-}
-
-/// Adds the ids.
-fn add_ids(known: &mut BTreeSet<Id>, ids: &[Id]) -> Result<(), NoMemory>
-    ensures { IfOk result (λ _. known.new.keys ≡ spec.with_ids known.old.keys ids.now) }
-{
-    for id in ids {
-        known.insert(*id)?;
-    }
-    Ok(())
-}
-
-impl Replica {
+/// A replica that begins with nothing.
+pub trait Engine: Replica + Sized {
     /// The state before all commands, with the ids of the first configuration.
-    #[tactic(auto, unfolding(crate::specs::Fold::first))]
-    pub fn first(alloc: Global, ids: &[Id]) -> Result<Replica, NoMemory>
-        ensures { IfOk result (λ replica. replica ≡ spec.first ids.now) }
-    {
-        let mut known = BTreeSet::new(alloc);
-        match add_ids(&mut known, ids) {
-            Ok(()) => Ok(Replica {
-                tables: Tables::new(alloc),
-                ids: known,
-            }),
-            Err(error) => {
-                drop(known);
-                Err(error)
-            }
-        }
-    }
+    fn first(alloc: Global, ids: &[Id]) -> Result<Self, NoMemory>
+        ensures { IfOk result (λ engine. Self.state engine ≡ fold.first ids.now) };
+}
 
-    /// Runs the command that executes the items, each by itself. With no memory a part of them may be done.
-    #[tactic(auto, unfolding(crate::specs::Fold::run))]
-    pub fn execute(&mut self, alloc: Global, items: &[Item]) -> Result<Seq<Res>, NoMemory>
-        ensures { IfOk result (λ results. spec.run self.old (command.Execute (record { transaction = false; items = items.now })) ≡ (self.new, outcome.Results results)) }
-    {
-        self.tables.apply(alloc, items)
-    }
-
-    /// Answers queries. It changes nothing.
-    #[tactic(auto, unfolding(crate::specs::Fold::answer))]
-    pub fn query(&self, alloc: Global, items: &[Item]) -> Result<Seq<Res>, NoMemory>
-        ensures { IfOk result (λ results. results ≡ spec.answer self.now items.now) }
-    {
-        self.tables.query(alloc, items)
-    }
+/// An engine that answers queries while others look at it.
+pub trait SharedEngine: Engine {
+    /// Answers queries.
+    fn look(&self, alloc: Global, items: &[Item]) -> Result<Seq<Res>, NoMemory>
+        ensures { IfOk result (λ results. results ≡ fold.answer (Self.state self.now) items.now) };
 }

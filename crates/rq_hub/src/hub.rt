@@ -2,7 +2,10 @@
 ghost use Rattle.std.specs.Prelude.{ℕ, List, ◌≡◌, ◌⊎◌, ◌≤◌, ◌<◌, ◌+◌, ◌^◌, ◌++◌, ◌∷◌, [], length, false, true, IfOk, OnOk, OnErr, IfSome, IfNone, IsErrOf};
 ghost use Rattle.std.proofs.Props.{props};
 ghost use Rattle.std.specs.Coded.{codes};
+ghost use Rattle.rq_values.specs.contracts.value.Value as value;
+ghost use Rattle.rq_grammar.specs.contracts.stmt.ColumnDef as column;
 ghost use Rattle.rq_statement.specs.contracts.item.Item as item;
+ghost use Rattle.rq_engine.specs.Coding.{state_code};
 ghost use Rattle.rq_node.specs.Events.{rule};
 ghost use Rattle.rq_node.specs.Node.{persistent_of};
 ghost use Rattle.rq_node.specs.Recovery.{IsOpen, Moments};
@@ -45,7 +48,7 @@ pub struct Hub<D: Disk, J: Naming> {
     of: PhantomData<J>,
     ghost one: { known.seen.book ≡ history.head.book },
     ghost named: { known.seen.book ≡ J.book },
-    ghost ran: { stopped ≡ false → node.state ≡ (run J.start known.seen.log).node } by { Prim.hlevel (props, codes, item.the_row.coded) },
+    ghost ran: { stopped ≡ false → node.state ≡ (run J.start known.seen.log).node } by { Prim.hlevel (props, codes, item.the_row.coded, state_code column.the_row.coded value.the_row.coded) },
     ghost told: { stopped ≡ false → said ≡ length (run J.start known.seen.log).answers },
 }
 

@@ -1,5 +1,5 @@
 -- Laws of statements.
-use Rattle.std.proofs.Common.{◌≡◌, true, Some, None, Ok, Err, refl, sym, ap, ◌∙◌}
+use Rattle.std.proofs.Common.{◌≡◌, true, Ok, Err, refl, sym, ap, ◌∙◌}
 use Rattle.std.specs.Prelude.{Result, IsOk}
 use Rattle.rq_values.specs.declared.memory.NoMemory.{NoMemory}
 use Rattle.rq_statement.specs.declared.item.Item.{Item}

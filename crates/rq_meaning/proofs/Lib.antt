@@ -1,1 +1,5 @@
 mod Failing
+mod Entering
+mod Keeping
+mod Databases
+mod Selected

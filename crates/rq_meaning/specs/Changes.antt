@@ -5,7 +5,6 @@ use Rattle.std.specs.FinMap as fin
 use Rattle.rq_values.specs.declared.value.Value.{Value}
 use Rattle.rq_values.specs.declared.value.Value.TheVariants as v
 use Rattle.rq_grammar.specs.declared.expr.Expr.{Expr}
-use Rattle.rq_grammar.specs.declared.stmt.ColumnDef.{ColumnDef}
 use Rattle.rq_eval.specs.declared.row.Scope.TheVariants as scope
 use Rattle.rq_eval.specs.Outcome.{Outcome, then_with, all_of}
 use Rattle.rq_eval.specs.Value.{value, no_row}

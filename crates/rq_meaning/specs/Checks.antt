@@ -1,13 +1,11 @@
 -- What is wrong with a statement before any row is looked at. docs/SQL.md, "Errors of statements", its lines from the top down to those
 -- of a row; a select's own are those of rq_select.
-use Rattle.std.specs.Prelude.{ℕ, ◌+◌, ◌==◌, Bool, true, false, not, ◌&&◌, if◌then◌else◌, nat_lt, List, [], ◌∷◌, ◌++◌, length, map, take, codes, bytes_eq, Option, Some, None, unwrap_or}
+use Rattle.std.specs.Prelude.{ℕ, ◌+◌, ◌==◌, Bool, not, ◌&&◌, if◌then◌else◌, nat_lt, List, [], ◌∷◌, ◌++◌, length, map, take, codes, bytes_eq, Option, Some, None}
 use Rattle.std.specs.Option.{option_map}
 use Rattle.std.specs.List.{list_any, filter_map}
 use Rattle.rq_grammar.specs.declared.expr.Expr.{Expr}
 use Rattle.rq_grammar.specs.declared.stmt.ColumnDef.{ColumnDef}
-use Rattle.rq_eval.specs.declared.error.StmtError.{StmtError}
 use Rattle.rq_eval.specs.declared.error.StmtError.TheVariants as error
-use Rattle.rq_eval.specs.declared.row.Scope.{Scope}
 use Rattle.rq_eval.specs.declared.row.Scope.TheVariants as scope
 use Rattle.rq_eval.specs.Names.{is_same_name, place}
 use Rattle.rq_results.specs.declared.checking.Allowed.TheVariants as allowed

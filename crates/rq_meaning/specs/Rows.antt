@@ -1,8 +1,8 @@
 -- Rows: how a row comes into a table, and what may be wrong with it. docs/SQL.md, "Errors of statements", its lines for a row.
 -- Source: SQLite, "CREATE TABLE" (constraints, rowids), "STRICT Tables" (kinds), "INSERT".
 pub use Rattle.std.specs.Fmt.{signed_decimal}
-use Rattle.std.specs.Prelude.{ℕ, ◌+◌, ◌^◌, ◌-◌, ℤ, int_lt, pos, negsuc, ◌+ℤ◌, Bool, true, false, not, ◌&&◌, ◌||◌, if◌then◌else◌, nat_lt, nat_le, List, [], ◌∷◌, length, map, drop, codes, bytes_eq, slice_get, slice_set, Option, Some, None, is_some, unwrap_or, Ok, Err}
-use Rattle.std.specs.Option.{option_map, option_map_or}
+use Rattle.std.specs.Prelude.{ℕ, ◌+◌, ◌^◌, ◌-◌, ℤ, int_lt, pos, ◌+ℤ◌, Bool, true, false, ◌&&◌, if◌then◌else◌, nat_lt, List, [], ◌∷◌, drop, codes, bytes_eq, Option, Some, None, is_some, Ok, Err}
+use Rattle.std.specs.Option.{option_map_or}
 use Rattle.std.specs.List.{list_any}
 use Rattle.std.specs.FinMap as fin
 use Rattle.std.specs.Str.Parse.{signed_digits_value}

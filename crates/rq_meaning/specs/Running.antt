@@ -1,5 +1,5 @@
 -- Running: what a function that runs a part of a statement gives, where memory may run out.
-use Rattle.std.specs.Prelude.{◌≡◌, Option, Some, None, Result, Ok, Err}
+use Rattle.std.specs.Prelude.{◌≡◌, Result, Ok, Err}
 use Rattle.rq_values.specs.declared.memory.NoMemory as values
 use Rattle.rq_statement.specs.declared.res.Res.{Res}
 use Rattle.rq_meaning.specs.Database.{Database}

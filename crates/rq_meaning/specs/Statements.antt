@@ -1,9 +1,8 @@
 -- Statements: what each makes of a database, and what it answers. docs/SQL.md, "What the statements do".
 -- Source: SQLite, "CREATE TABLE", "DROP TABLE", "INSERT", "UPDATE", "DELETE", "SELECT".
-use Rattle.std.specs.Prelude.{ℕ, ℤ, pos, Bool, true, false, if◌then◌else◌, nat_le, List, [], ◌∷◌, length, Option, Some, None, is_some, Ok, Err}
+use Rattle.std.specs.Prelude.{ℕ, ℤ, pos, Bool, true, false, if◌then◌else◌, nat_le, List, length, Option, is_some, Ok, Err}
 use Rattle.std.specs.Option.{option_and_then}
 use Rattle.std.specs.FinMap as fin
-use Rattle.rq_values.specs.declared.value.Value.{Value}
 use Rattle.rq_grammar.specs.declared.expr.Expr.{Expr}
 use Rattle.rq_grammar.specs.declared.stmt.ColumnDef.{ColumnDef}
 use Rattle.rq_grammar.specs.declared.stmt.SelectStmt.{SelectStmt}

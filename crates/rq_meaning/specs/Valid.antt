@@ -1,11 +1,11 @@
 -- Valid databases.
-use Rattle.std.specs.Prelude.{◌≡◌, ◌≢◌, ◌≤◌, ℕ, ℤ, int_lt, Bool, true, false, List, [], ◌∷◌, length, slice_get, Some, None}
+use Rattle.std.specs.Prelude.{◌≡◌, ◌≢◌, ◌≤◌, ◌+◌, ℕ, ℤ, int_lt, true, false, List, [], ◌∷◌, length, slice_get, Option, Some, None}
 use Rattle.std.specs.FinMap as fin
 use Rattle.rq_values.specs.declared.value.Value.{Value}
 use Rattle.rq_values.specs.declared.value.Value.TheVariants as v
 use Rattle.rq_grammar.specs.declared.stmt.ColumnDef.{ColumnDef}
 use Rattle.rq_results.specs.Checks.{first}
-use Rattle.rq_meaning.specs.Database.{Table, Database, lower, is_rowid, tables_size, size_limit}
+use Rattle.rq_meaning.specs.Database.{Table, Database, lower, is_rowid, table_size, tables_size, size_limit}
 use Rattle.rq_rows.specs.Rows.{is_unique}
 use Rattle.rq_meaning.specs.Rows.{stored, last_rowid}
 use Rattle.rq_meaning.specs.Checks.{create_check}
@@ -37,3 +37,17 @@ pub record Valid (db : Database) : Type 0 where
   pub named : (name : List ℕ) (t : Table) → fin.get db name ≡ Some t → name ≡ lower t.name
   pub tables : (name : List ℕ) (t : Table) → fin.get db name ≡ Some t → ValidTable t
   pub size : tables_size db ≤ size_limit
+
+-- ---- what leaves a table valid
+
+-- the rowid that a row had is within its range
+abbrev pub HadFits : Option ℤ → Type 0
+HadFits None = Unit {0}
+HadFits (Some k) = int_lt last_rowid k ≡ false
+
+-- a row that comes into a valid table leaves it valid, and within the limit together with the others
+pub record Entered (others : ℕ) (t new : Table) : Type 0 where
+  pub valid : ValidTable new
+  pub name : new.name ≡ t.name
+  pub columns : new.columns ≡ t.columns
+  pub within : others + table_size new ≤ size_limit

@@ -7,4 +7,4 @@ mod done;
 mod laws;
 
 pub use done::Done;
-pub use laws::{one_meaning, what_fails_changes_nothing};
+pub use laws::{one_meaning, statements_keep_a_database_valid, what_fails_changes_nothing};

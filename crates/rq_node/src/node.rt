@@ -16,8 +16,8 @@ use crate::role::Role;
 use crate::turn_error::TurnError;
 use crate::waiting::Waiting;
 use rq_command::items_can_be_read;
-use rq_engine::Replica;
 use rq_outside::{Disk, DiskPair};
+use rq_tables::Tables;
 use rq_values::{Id, NoMemory, Seq};
 use rq_wal::{Frame, WalFile, logs_stand_while_room_is_made};
 use rq_wire::{Body, Entry};
@@ -42,18 +42,21 @@ pub struct State {
     applied: u64,
     role: Role,
     waiting: VecDeque<Waiting>,
-    replica: Replica,
+    replica: Tables,
 }
 
 impl Model for State {
     ghost use Rattle.std.specs.Coded.{codes};
+    ghost use Rattle.rq_values.specs.contracts.value.Value as value;
+    ghost use Rattle.rq_grammar.specs.contracts.stmt.ColumnDef as column;
     ghost use Rattle.rq_statement.specs.contracts.item.Item as item;
+    ghost use Rattle.rq_engine.specs.Coding.{state_code};
     ghost use Rattle.rq_node.specs.Node.{Node};
     ghost use Rattle.rq_node.specs.Sound.{IsSound};
 
     ghost Value = { Node };
 
-    ghost coded = { Prim.hlevel (codes, item.the_row.coded) };
+    ghost coded = { Prim.hlevel (codes, item.the_row.coded, state_code column.the_row.coded value.the_row.coded) };
 
     ghost view = { λ s. record {
       id = s.id;

@@ -12,8 +12,7 @@ use Rattle.rq_statement.specs.Statements.{Statements}
 use Rattle.rq_engine.specs.declared.outcome.Outcome.{Outcome}
 use Rattle.rq_engine.specs.declared.outcome.Outcome.TheVariants as outcomes
 use Rattle.rq_engine.specs.Fold.{State, run, answer, outcome_behind}
-use Rattle.rq_engine.specs.Meaning.{means, answers}
-use Rattle.rq_engine.specs.Lists.{means_or_answers, list_run}
+use Rattle.rq_meaning.specs.Lists.{means, answers, means_or_answers, list_run}
 use Rattle.rq_engine.specs.Fold as engine
 use Rattle.rq_world.specs.declared.log_entry.LogEntry.{LogEntry}
 use Rattle.rq_statement.specs.declared.command.Command.{Command}

@@ -8,9 +8,9 @@ ghost use Rattle.rq_node.specs.Rules.{apply, applied_entry, answered, command_of
 use super::State;
 use crate::log_entry::Content;
 use crate::waiting::Waiting;
-use rq_engine::Replica;
 use rq_request::{Answer, Say};
 use rq_statement::{Item, Res};
+use rq_tables::Tables;
 use rq_values::{NoMemory, Seq};
 use std::alloc::Global;
 use std::collections::VecDeque;
@@ -55,7 +55,7 @@ impl State {
 
 /// Runs a list on the replica.
 #[tactic(auto, using(crate::proofs::NodeSteps::first_part, crate::proofs::NodeSteps::second_part))]
-fn run_list(replica: &mut Replica, alloc: Global, items: &[Item]) -> Result<Seq<Res>, NoMemory>
+fn run_list(replica: &mut Tables, alloc: Global, items: &[Item]) -> Result<Seq<Res>, NoMemory>
     ensures replica { OnOk result (replica.new ≡ (run replica.old (command_of (Execute items.now))).0) }
     ensures results { IfOk result (λ results. results ≡ results_of (run replica.old (command_of (Execute items.now))).1) }
 {

@@ -17,6 +17,7 @@ use crate::role::Role;
 use crate::turn_error::TurnError;
 use crate::waiting::Waiting;
 use rq_command::items_can_be_read;
+use rq_engine::SharedEngine;
 use rq_outside::{Disk, DiskPair};
 use rq_request::{NodeRefusal, Say};
 use rq_statement::{Item, encode_execute};
@@ -34,7 +35,7 @@ impl State {
     ) -> Result<Effects, NoMemory>
         ensures effects { IfOk result (Brings (query self.now number items.now)) }
     {
-        let results = self.replica.query(alloc, items)?;
+        let results = self.replica.look(alloc, items)?;
         Effects::says(alloc, number, Say::Results(results))
     }
 }

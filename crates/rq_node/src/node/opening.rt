@@ -31,9 +31,10 @@ use crate::log_entry::{Content, LogEntry};
 use crate::role::Role;
 use crate::turn_error::TurnError;
 use rq_command::decode_execute;
-use rq_engine::Replica;
+use rq_engine::Engine;
 use rq_outside::{Disk, DiskPair};
 use rq_statement::Item;
+use rq_tables::Tables;
 use rq_values::{
     Addr, Bytes, DecodeError, Id, MAX_COMMAND, NoMemory, Seq, put_bytes, put_u8, put_u32,
 };
@@ -118,7 +119,7 @@ fn started_state(alloc: Global, id: Id, stored: Stored) -> Result<State, NodeErr
         return Err(NodeError::Ended(stored.boot));
     }
     let log = log_of(alloc, stored.entries.as_slice())?;
-    let replica = Replica::first(alloc, &[id])?;
+    let replica = Tables::first(alloc, &[id])?;
     Ok(State {
         id,
         term: stored.term,

@@ -1,0 +1,6 @@
+mod Names
+mod Places
+mod Below
+mod Placed
+mod Outcomes
+mod Created
