@@ -24,7 +24,7 @@ pub clash : {P : Type 0} (b : Bool) → b ≡ true → b ≡ false → P
 clash true a e = absurd (cc)
 clash false a e = absurd (cc)
 
-same_is : (v w : Value) → same v w ≡ true → v ≡ w
+pub same_is : (v w : Value) → same v w ≡ true → v ≡ w
 same_is v w t = exact v w (ap is_eq (sym (is_compared v w)) ∙ t)
 
 same_itself : (v : Value) → same v v ≡ true
@@ -89,7 +89,7 @@ cover_same n c g h rows k row free cover points j r v e f =
 
 -- ---- all maps
 
-order : (n i : ℕ) → (n < i) ⊎ (i ≤ n)
+pub order : (n i : ℕ) → (n < i) ⊎ (i ≤ n)
 order n zero = inr (omega arith)
 order zero (suc i) = inl (omega arith)
 order (suc n) (suc i) = by (order n i)
@@ -183,7 +183,7 @@ has_holders cs hs rows k (Some row) covers e = λ n c h v at_c at_h must key. su
 
 -- ---- the loop
 
-get_set : {A : Type 0} (xs : List A) (i : ℕ) (x y z : A) → slice_get xs i ≡ Some x → slice_get (slice_set xs i y) i ≡ Some z → z ≡ y
+pub get_set : {A : Type 0} (xs : List A) (i : ℕ) (x y z : A) → slice_get xs i ≡ Some x → slice_get (slice_set xs i y) i ≡ Some z → z ≡ y
 get_set [] i x y z e f = absurd (cc)
 get_set (a ∷ xs) zero x y z e f = inside z y (sym f)
 get_set (a ∷ xs) (suc i) x y z e f = get_set xs i x y z e f

@@ -7,3 +7,4 @@ mod Finding
 mod Shown
 mod Walks
 mod Covered
+mod Left

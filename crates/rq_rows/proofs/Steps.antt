@@ -61,10 +61,10 @@ take_on cs hs s t ls l sound changed old =
     changes cs hs hs s t ls l None sound sound.matched (same_more hs) changed old
     (covers_out cs hs (live s) l.key sound.covers) (valid_out cs (live s) l.key (valids_last cs ls s sound.valids))
 
-pub kept : (cs : List ColumnDef) (hs : List Held) (s t : Slots) (ls ms : List Change) → Sound cs hs s ls → live t ≡ live s → ms ≡ [] → Sound cs hs t ms
-kept cs hs s t ls ms sound same e = subst (Sound cs hs t) (sym e) (record {
-  matched = sound.matched;
-  covers = subst (Covers cs hs) (sym same) sound.covers;
+pub kept : (cs : List ColumnDef) (gs hs : List Held) (s t : Slots) (ls ms : List Change) → Sound cs gs s ls → length hs ≡ length cs → Covers cs hs (live t) → live t ≡ live s → ms ≡ [] → Sound cs hs t ms
+kept cs gs hs s t ls ms sound len covers same e = subst (Sound cs hs t) (sym e) (record {
+  matched = len;
+  covers = covers;
   valids = subst (Valid cs) (sym same) (valids_last cs ls s sound.valids);
   ready = tt;
 })

@@ -63,4 +63,11 @@ impl Holders {
         self.keys.insert(key, to)?;
         Ok(())
     }
+
+    /// Takes the entry of a value out.
+    pub fn let_go(&mut self, value: &Value)
+        ensures { (q : _) → held self.new q ≡ cond (same value.now q) None (held self.old q) }
+    {
+        let _to = self.keys.remove(value);
+    }
 }

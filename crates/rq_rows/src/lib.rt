@@ -3,6 +3,7 @@
 
 mod change;
 mod holders;
+mod sweeping;
 mod table_rows;
 mod undo;
 mod walking;

@@ -10,10 +10,11 @@ ghost use Rattle.rq_rows.specs.Slots.{shown, joined};
 
 use crate::change::Change;
 use crate::holders::Holders;
-use crate::undo::{Slots, hold_all, key_at, settle, undo_to};
-use crate::walking::largest;
+use crate::sweeping::{let_stand, make_room};
+use crate::undo::{Slots, go_back_to, hold_all, key_at};
+use crate::walking::{is_same, largest, row_at};
 use rq_grammar::ColumnDef;
-use rq_values::{NoMemory, Seq, Value, compare};
+use rq_values::{NoMemory, Seq, Value};
 use std::alloc::Global;
 use std::collections::BTreeMap;
 use std::marker::Model;
@@ -26,6 +27,8 @@ pub struct TableRows {
     /// For each column which row holds a value; empty where its values need not differ, and where it is the rowid.
     holders: Vec<Holders>,
     log: Vec<Change>,
+    /// Rows that came in since the command began and went back: the maps may still have their values.
+    gone: Vec<Seq<Value>>,
     /// Where the statement's changes begin.
     mark: usize,
 }
@@ -53,12 +56,14 @@ impl Drop for TableRows {
             slots,
             holders,
             log,
+            gone,
             mark: _,
         } = self;
         drop(columns);
         drop(slots);
         drop(holders);
         drop(log);
+        drop(gone);
     }
 }
 
@@ -77,6 +82,7 @@ impl TableRows {
                 slots: BTreeMap::new(alloc),
                 holders,
                 log: Vec::new(alloc),
+                gone: Vec::new(alloc),
                 mark: 0,
             }),
         }
@@ -108,13 +114,7 @@ impl TableRows {
     pub fn get(&self, key: i64) -> Option<&[Value]>
         ensures { option_copied result ≡ fin.get self.now.now key }
     {
-        match self.slots.get(&key) {
-            Some(slot) => match slot {
-                Some(row) => Some(row.as_slice()),
-                None => None,
-            },
-            None => None,
-        }
+        row_at(&self.slots, key)
     }
 
     /// The largest rowid.
@@ -131,11 +131,11 @@ impl TableRows {
         ensures ok { OnOk result (self.new ≡ record self.old { now = fin.insert self.old.now key row }) }
         ensures err { OnErr result (self.new ≡ self.old) }
     {
-        match self.log.reserve(1) {
+        match make_room(&mut self.log, &mut self.gone) {
             Ok(()) => {}
-            Err(_) => {
+            Err(e) => {
                 drop(row);
-                return Err(NoMemory);
+                return Err(e);
             }
         }
         match hold_all(
@@ -192,10 +192,11 @@ impl TableRows {
     pub fn take_back(&mut self)
         ensures { self.new ≡ record self.old { now = self.old.before } }
     {
-        undo_to(
+        go_back_to(
             self.columns.as_slice(),
             &mut self.slots,
             &mut self.holders,
+            &mut self.gone,
             &mut self.log,
             self.mark,
         );
@@ -206,10 +207,11 @@ impl TableRows {
         ensures { self.new ≡ record self.old { before = self.old.start; now = self.old.start } }
     {
         self.mark = 0;
-        undo_to(
+        go_back_to(
             self.columns.as_slice(),
             &mut self.slots,
             &mut self.holders,
+            &mut self.gone,
             &mut self.log,
             0,
         );
@@ -220,7 +222,13 @@ impl TableRows {
         ensures { self.new ≡ record self.old { start = self.old.now; before = self.old.now } }
     {
         self.mark = 0;
-        settle(&mut self.slots, self.log.as_slice());
+        let_stand(
+            self.columns.as_slice(),
+            &mut self.slots,
+            &mut self.holders,
+            &mut self.gone,
+            self.log.as_slice(),
+        );
         self.log.clear();
     }
 
@@ -268,15 +276,6 @@ impl TableRows {
             None => false,
             Some(value) => self.find(at, value).is_some(),
         }
-    }
-}
-
-fn is_same(value: &Value, other: Option<&Value>) -> bool
-    ensures { result ≡ spec.is_same value.now (option_copied other.entry) }
-{
-    match other {
-        None => false,
-        Some(other) => compare(value, other).is_eq(),
     }
 }
 

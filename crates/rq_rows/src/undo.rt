@@ -14,6 +14,7 @@ ghost use Rattle.rq_rows.specs.Staged.{Sound};
 
 use crate::change::Change;
 use crate::holders::Holders;
+use crate::sweeping::{lay_by, release_gone};
 use rq_grammar::{ColumnDef, ColumnKind};
 use rq_values::{NoMemory, Seq, Value};
 use std::alloc::Global;
@@ -127,13 +128,13 @@ fn point_all(columns: &[ColumnDef], holders: &mut Vec<Holders>, row: &[Value], k
     }
 }
 
-/// Puts a content into a slot that is there.
-fn refill(slots: &mut Slots, key: i64, content: Option<Seq<Value>>)
+/// Puts a content into a slot that is there, and lays by the row that it had.
+fn refill(slots: &mut Slots, gone: &mut Vec<Seq<Value>>, key: i64, content: Option<Seq<Value>>)
     requires { IsSome (lookup (is_at (int_cmp key)) slots.old.entries) }
     ensures { slots_of slots.new.entries ≡ put_slot (slots_of slots.old.entries) key (Some content) }
 {
     match slots.insert(key, content) {
-        Ok(before) => drop(before),
+        Ok(before) => lay_by(gone, before),
         Err(refused) => {
             drop(refused);
             unreachable!()
@@ -141,15 +142,21 @@ fn refill(slots: &mut Slots, key: i64, content: Option<Seq<Value>>)
     }
 }
 
-/// Takes a slot out.
-fn take_out(slots: &mut Slots, key: i64)
+/// Takes a slot out, and lays by the row that it had.
+fn take_out(slots: &mut Slots, gone: &mut Vec<Seq<Value>>, key: i64)
     ensures { slots_of slots.new.entries ≡ put_slot (slots_of slots.old.entries) key None }
 {
-    drop(slots.remove(&key));
+    lay_by(gone, slots.remove(&key));
 }
 
 /// Takes one change back.
-fn undo_one(columns: &[ColumnDef], slots: &mut Slots, holders: &mut Vec<Holders>, change: Change)
+fn undo_one(
+    columns: &[ColumnDef],
+    slots: &mut Slots,
+    holders: &mut Vec<Holders>,
+    gone: &mut Vec<Seq<Value>>,
+    change: Change,
+)
     requires len { vec_len holders.old ≡ length columns.now }
     requires slot { IsSome (lookup (is_at (int_cmp change.key)) slots.old.entries) }
     requires ready { HasHolders columns.now holders.old.items (joined change.old) }
@@ -162,22 +169,23 @@ fn undo_one(columns: &[ColumnDef], slots: &mut Slots, holders: &mut Vec<Holders>
 {
     let Change { key, old } = change;
     match old {
-        None => take_out(slots, key),
+        None => take_out(slots, gone, key),
         Some(content) => match content {
-            None => refill(slots, key, None),
+            None => refill(slots, gone, key, None),
             Some(row) => {
                 point_all(columns, holders, row.as_slice(), key);
-                refill(slots, key, Some(row));
+                refill(slots, gone, key, Some(row));
             }
         },
     }
 }
 
-/// Takes the last changes back, as far as the mark.
-pub fn undo_to(
+/// Takes the last changes back, as far as the mark, and lays by the rows that go.
+fn undo_to(
     columns: &[ColumnDef],
     slots: &mut Slots,
     holders: &mut Vec<Holders>,
+    gone: &mut Vec<Seq<Value>>,
     log: &mut Vec<Change>,
     mark: usize,
 )
@@ -190,26 +198,30 @@ pub fn undo_to(
 {
     while log.len() > mark {
         match log.pop() {
-            Some(change) => undo_one(columns, slots, holders, change),
+            Some(change) => undo_one(columns, slots, holders, gone, change),
             None => unreachable!(),
         }
     }
 }
 
-/// Takes a slot out that shows nothing.
-fn sweep(slots: &mut Slots, key: i64)
-    ensures { live (slots_of slots.new.entries) ≡ live (slots_of slots.old.entries) }
+/// The same, and where no change is left the maps lose what those rows left in them.
+pub fn go_back_to(
+    columns: &[ColumnDef],
+    slots: &mut Slots,
+    holders: &mut Vec<Holders>,
+    gone: &mut Vec<Seq<Value>>,
+    log: &mut Vec<Change>,
+    mark: usize,
+)
+    requires mark { mark ≤ vec_len log.old }
+    requires sound { Sound columns.now holders.old.items (slots_of slots.old.entries) log.old.items }
+    ensures sound { Sound columns.now holders.new.items (slots_of slots.new.entries) log.new.items }
+    ensures start { undone log.new.items (slots_of slots.new.entries) ≡ undone log.old.items (slots_of slots.old.entries) }
+    ensures now { slots_of slots.new.entries ≡ undone (drop mark log.old.items) (slots_of slots.old.entries) }
+    ensures len { vec_len log.new ≡ mark }
 {
-    if let Some(None) = slots.get(&key) {
-        drop(slots.remove(&key));
-    }
-}
-
-/// Takes the slots out that show nothing since the changes.
-pub fn settle(slots: &mut Slots, log: &[Change])
-    ensures { live (slots_of slots.new.entries) ≡ live (slots_of slots.old.entries) }
-{
-    for i in 0..log.len() {
-        sweep(slots, log[i].key);
+    undo_to(columns, slots, holders, gone, log, mark);
+    if log.is_empty() {
+        release_gone(columns, holders, slots, gone);
     }
 }

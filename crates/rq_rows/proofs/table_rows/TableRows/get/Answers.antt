@@ -1,24 +1,10 @@
-use Rattle.std.proofs.Common.{ap, sym, ◌∙◌, Some, w64, FitsSigned}
+use Rattle.std.proofs.Common.{ap, ◌∙◌, w64, FitsSigned}
 use Rattle.std.proofs.lemmas.Int.{to_z-of_z}
 use Rattle.std.specs.FinMap as fin
-use Rattle.rq_rows.specs.Slots.{slots_of, joined}
-use Rattle.rq_rows.proofs.Live.{get_live, get_slots}
 use Rattle.rq_rows.proofs.table_rows.TableRows.get.Goals as goal
 
-pub returns-in-Some-slot : goal.returns-in-Some-slot
-returns-in-Some-slot c =
+pub returns : goal.returns
+returns c =
     let fits : FitsSigned w64 c.args.key = c.ranges.key in
-    let found = simp to_z-of_z at c.in-Some.ensures.value in
-    ap Some c.as_slice.ensures ∙ sym c.in-Some-slot.is ∙ ap joined (found ∙ sym (get_slots c.self.inside.slots.entries c.args.key)) ∙ sym (get_live (slots_of c.self.inside.slots.entries) c.args.key) ∙ ap (λ s. fin.get s.now c.args.key) c.self.view_is
-
-pub returns-in-None-slot : goal.returns-in-None-slot
-returns-in-None-slot c =
-    let fits : FitsSigned w64 c.args.key = c.ranges.key in
-    let found = simp to_z-of_z at c.in-Some.ensures.value in
-    sym c.in-None-slot.is ∙ ap joined (found ∙ sym (get_slots c.self.inside.slots.entries c.args.key)) ∙ sym (get_live (slots_of c.self.inside.slots.entries) c.args.key) ∙ ap (λ s. fin.get s.now c.args.key) c.self.view_is
-
-pub returns-in-None : goal.returns-in-None
-returns-in-None c =
-    let fits : FitsSigned w64 c.args.key = c.ranges.key in
-    let found = simp to_z-of_z at c.in-None.ensures.value in
-    ap joined (found ∙ sym (get_slots c.self.inside.slots.entries c.args.key)) ∙ sym (get_live (slots_of c.self.inside.slots.entries) c.args.key) ∙ ap (λ s. fin.get s.now c.args.key) c.self.view_is
+    let found = simp to_z-of_z at c.row_at.ensures in
+    found ∙ ap (λ s. fin.get s.now c.args.key) c.self.view_is

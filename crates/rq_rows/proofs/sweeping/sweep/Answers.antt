@@ -2,7 +2,7 @@ use Rattle.std.proofs.Common.{ap, ◌∙◌, None, w64, FitsSigned}
 use Rattle.std.proofs.lemmas.Int.{to_z-of_z}
 use Rattle.rq_rows.specs.Slots.{slots_of, live}
 use Rattle.rq_rows.proofs.Live.{swept, slots_changed, get_slots}
-use Rattle.rq_rows.proofs.undo.sweep.Goals as goal
+use Rattle.rq_rows.proofs.sweeping.sweep.Goals as goal
 
 pub returns-in-Some-None : goal.returns-in-Some-None
 returns-in-Some-None c =
