@@ -25,7 +25,7 @@ StatementsKeep = (db : Database) (s : Stmt) (p : Database × Done) → is_statem
 abbrev Keeps : Step → Type 0
 Keeps step = (db : Database) (i : Item) → is_item i ≡ true → Valid db → Valid (step db i).0
 
-both : (b c : Bool) → (b && c) ≡ true → (b ≡ true) × (c ≡ true)
+pub both : (b c : Bool) → (b && c) ≡ true → (b ≡ true) × (c ≡ true)
 both true c e = (refl, e)
 both false c e = absurd (cc)
 

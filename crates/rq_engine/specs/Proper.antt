@@ -26,3 +26,6 @@ is_command (StrongQuery items) = are_items items
 is_command (Load items) = are_items items
 is_command (Batch lists) = all_of (map is_list lists)
 is_command (Once id boot number list) = is_list list
+
+abbrev pub are_commands : List Command → Bool
+are_commands log = all_of (map is_command log)

@@ -7,6 +7,6 @@ mod laws;
 mod outcome;
 mod replica;
 
-pub use laws::commands_keep_a_database_valid;
+pub use laws::{commands_keep_a_database_valid, replica_is_valid};
 pub use outcome::Outcome;
 pub use replica::{Engine, Replica, SharedEngine};
