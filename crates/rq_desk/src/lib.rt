@@ -7,6 +7,7 @@ mod mail;
 mod putting;
 mod running;
 mod slot;
+mod unbuilt;
 mod waiters;
 mod wanted;
 
@@ -15,4 +16,5 @@ pub use mail::{Mail, Shared};
 pub use putting::{DeskError, close, number, put};
 pub use running::{HubEnd, run_hub};
 pub use slot::Slot;
+pub use unbuilt::{Unbuilt, unbuilt_of};
 pub use wanted::Wanted;

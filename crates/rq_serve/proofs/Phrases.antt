@@ -1,5 +1,5 @@
 -- Each reply has a status with a phrase.
-use Rattle.std.proofs.Common.{◌≡◌, inl, inr, refl, ap, subst, sym, ℕ, List, length}
+use Rattle.std.proofs.Common.{◌≡◌, inl, inr, refl, ap, subst, sym, ℕ, List, Option, Some, None, Result, Ok, Err}
 use Rattle.rq_http.specs.Exchange.{HasPhrase}
 use Rattle.rq_http.specs.declared.port.Reply.{Reply}
 use Rattle.rq_bodies.specs.ErrorText.{error_status}
@@ -11,13 +11,18 @@ use Rattle.rq_request.specs.declared.say.Say.TheVariants as say
 use Rattle.rq_request.specs.declared.say.NodeRefusal.{NodeRefusal}
 use Rattle.rq_request.specs.declared.say.NodeRefusal.TheVariants as refuses
 use Rattle.rq_route.specs.Refusal.{status_of as refused_status}
-use Rattle.rq_route.specs.Routing.{route_of}
 use Rattle.rq_route.specs.declared.refusal.Refusal.{Refusal}
 use Rattle.rq_route.specs.declared.refusal.Refusal.TheVariants as refusal
-use Rattle.rq_route.specs.declared.routing.Routed.{Routed}
-use Rattle.rq_route.specs.declared.routing.Routed.TheVariants as routed
+use Rattle.rq_request.specs.declared.ask.Ask.{Ask}
+use Rattle.rq_request.specs.declared.shape.Shape.{Shape}
+use Rattle.rq_asking.specs.declared.reading.Requested.{Requested}
+use Rattle.rq_asking.specs.declared.reading.Defect.{Defect}
+use Rattle.rq_asking.specs.declared.reading.Defect.TheVariants as defects
+use Rattle.rq_asking.specs.Requested.{requested_of, status_of as defect_status}
 use Rattle.rq_node.specs.Node.{Node}
-use Rattle.rq_serve.specs.Replies.{IsReplyTo, IsReply}
+use Rattle.rq_desk.specs.Asks.{unbuilt_of}
+use Rattle.rq_desk.specs.declared.unbuilt.Unbuilt.{Unbuilt}
+use Rattle.rq_serve.specs.Replies.{Puts, Given, AnswersAsk, IsReplyTo, IsReply, out_of_memory, defect_reply, said_reply, unbuilt_reply}
 
 ok : HasPhrase 200
 ok = inl refl
@@ -78,15 +83,25 @@ refused refusal.NoMethod = not_allowed
 refused (refusal.LongBody n) = too_large
 refused (refusal.Parameter key) = bad
 
+defect_phrase : (d : Defect) → HasPhrase (defect_status d)
+defect_phrase (defects.Routing r) = refused r
+defect_phrase (defects.Body e) = defect e
+defect_phrase defects.NoMemory = insufficient
+
 phrase_as : (reply : Reply) (status : ℕ) → reply.status ≡ status → HasPhrase status → HasPhrase reply.status
 phrase_as reply status e phrase = subst HasPhrase (sym e) phrase
 
-pub routed_phrase : (start : Node) (method target bytes : List ℕ) (r : Routed) (reply : Reply) → IsReplyTo start method target bytes r reply → HasPhrase reply.status
-routed_phrase start method target bytes (routed.Refused r) reply e = phrase_as reply (refused_status r) (ap (λ (x : Reply). x.status) e) (refused r)
-routed_phrase start method target bytes (routed.Taken request) reply (inl off) = phrase_as reply 400 (ap (λ (x : Reply). x.status) off.1) bad
-routed_phrase start method target bytes (routed.Taken request) reply (inr (plainly, inl d)) = phrase_as reply (error_status d.error) (ap (λ (x : Reply). x.status) d.is) (defect d.error)
-routed_phrase start method target bytes (routed.Taken request) reply (inr (plainly, inr s)) = phrase_as reply (status_of s.answer.say) (ap (λ (x : Reply). x.status) s.is) (said s.answer.say)
+of_reply : (reply other : Reply) → reply ≡ other → HasPhrase other.status → HasPhrase reply.status
+of_reply reply other e phrase = phrase_as reply other.status (ap (λ (x : Reply). x.status) e) phrase
 
-pub reply_phrase : (start : Node) (method target bytes : List ℕ) (reply : Reply) → IsReply start method target bytes reply → HasPhrase reply.status
-reply_phrase start method target bytes reply (inl memory) = phrase_as reply 507 (ap (λ (x : Reply). x.status) memory) insufficient
-reply_phrase start method target bytes reply (inr other) = routed_phrase start method target bytes (route_of method target (length bytes)) reply other
+ask_phrase : (start : Node) (puts : Puts) (shape : Shape) (ask : Ask) (u : Option Unbuilt) (reply : Reply) → AnswersAsk start puts shape ask u reply → HasPhrase reply.status
+ask_phrase start puts shape ask None reply (put, s) = of_reply reply (said_reply shape s.answer.say) s.is (said s.answer.say)
+ask_phrase start puts shape ask (Some u) reply (put, is) = of_reply reply (unbuilt_reply u) is bad
+
+pub answered_phrase : (start : Node) (puts : Puts) (given : Given) (method target : List ℕ) (r : Result Requested Defect) (reply : Reply) → IsReplyTo start puts given method target r reply → HasPhrase reply.status
+answered_phrase start puts given method target (Err d) reply (put, is) = of_reply reply (defect_reply method target d) is (defect_phrase d)
+answered_phrase start puts given method target (Ok r) reply a = ask_phrase start puts r.request.shape a.ask (unbuilt_of a.ask.op) reply a.answers
+
+pub reply_phrase : (start : Node) (puts : Puts) (given : Given) (method target bytes : List ℕ) (reply : Reply) → IsReply start puts given method target bytes reply → HasPhrase reply.status
+reply_phrase start puts given method target bytes reply (inl memory) = of_reply reply out_of_memory memory insufficient
+reply_phrase start puts given method target bytes reply (inr other) = answered_phrase start puts given method target (requested_of method target bytes) reply other

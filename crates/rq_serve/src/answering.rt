@@ -1,26 +1,20 @@
 //! The reply to a request.
-ghost use Rattle.std.specs.Prelude.{◌≡◌, ◌⊎◌, length, None, Err, IfOk, IfErr};
-ghost use Rattle.rq_bodies.specs.Body.{parsed};
-ghost use Rattle.rq_bodies.specs.ErrorText.{error_status, error_text};
-ghost use Rattle.rq_bodies.specs.declared.error.BodyError.TheVariants.{NoMemory as BodyNoMemory};
+ghost use Rattle.std.specs.Prelude.{◌≡◌, IsTrue, IfOk};
 ghost use Rattle.rq_http.specs.Exchange.{HasPhrase};
-ghost use Rattle.rq_route.specs.Refusal.{status_of as refused_status, text_of};
-ghost use Rattle.rq_route.specs.Routing.{route_of};
-ghost use Rattle.rq_serve.specs.Replies.{plain, is_json, location_of, said_reply, IsSaid, IsDefect, IsReplyTo, IsReply};
+ghost use Rattle.rq_asking.specs.Requested.{requested_of};
+ghost use Rattle.rq_desk.specs.Asks.{unbuilt_of};
+ghost use Rattle.rq_serve.specs.Replies as spec;
 
 use crate::desk::Desk;
-use crate::preparing::{items_of, writes};
-use rq_bodies::{BodyError, parse_list};
-use rq_desk::{DeskError, Wanted};
+use rq_asking::{Defect, Requested, ask_of, read_request};
+use rq_desk::{DeskError, Unbuilt, unbuilt_of};
 use rq_http::Reply;
 use rq_hub::{Naming, Said};
 use rq_outside::Draws;
 use rq_preparing::PrepareError;
 use rq_replies::reply;
-use rq_request::{Level, Params, Say, Shape, Statement};
-use rq_route::{Path, Refusal, Request, Routed, route};
-use rq_statement::Item;
-use rq_values::{Bytes, NoMemory, Seq, Text};
+use rq_request::{Ask, Say, Shape};
+use rq_values::{Bytes, NoMemory};
 use std::alloc::{AllocError, Global};
 
 /// Why there is no reply.
@@ -63,7 +57,7 @@ impl From<DeskError> for AskError {
 
 /// A reply in plain text.
 fn plain(status: u16, text: Vec<u8>) -> Reply
-    ensures { result ≡ plain status text.items }
+    ensures { result ≡ spec.plain status text.items }
 {
     Reply {
         status,
@@ -75,75 +69,38 @@ fn plain(status: u16, text: Vec<u8>) -> Reply
 
 /// A reply in plain text.
 fn plain_words(alloc: Global, status: u16, words: &[u8]) -> Result<Reply, AskError>
-    ensures { IfOk result (λ reply. reply ≡ plain status words.now) }
+    ensures { IfOk result (λ reply. reply ≡ spec.plain status words.now) }
 {
     Ok(plain(status, Vec::from_slice(alloc, words)?))
 }
 
-/// The reply to a request that is refused before its body.
-fn refused(alloc: Global, refusal: Refusal, method: &[u8], target: &[u8]) -> Result<Reply, AskError>
-    ensures { IfOk result (λ reply. reply ≡ plain (refused_status refusal) (text_of method.now target.now refusal)) }
-{
-    Ok(plain(refusal.status(), refusal.text(alloc, method, target)?))
-}
-
-/// The reply to a body that is no list of statements.
-fn no_list(alloc: Global, error: BodyError) -> Result<Reply, AskError>
-    ensures { IfOk result (λ reply. reply ≡ plain (error_status error) (error_text error)) }
-{
-    let mut text = Vec::new(alloc);
-    error.write(alloc, &mut text)?;
-    Ok(plain(error.status(), text))
-}
-
-/// The statements of a request: the one that its target names, or those of its body.
-fn statements(
+/// The reply to a request that has a defect.
+fn defect_reply(
     alloc: Global,
-    statement: Option<Text>,
-    body: &[u8],
-) -> Result<Seq<Statement>, BodyError>
-    ensures { IfErr result (λ e. (e ≡ BodyNoMemory) ⊎ ((statement ≡ None) × (parsed body.now ≡ Err e))) }
+    defect: Defect,
+    method: &[u8],
+    target: &[u8],
+) -> Result<Reply, AskError>
+    ensures { IfOk result (λ reply. reply ≡ spec.defect_reply method.now target.now defect) }
 {
-    match statement {
-        Some(text) => named(alloc, text),
-        None => parse_list(alloc, body),
-    }
+    Ok(plain(defect.status(), defect.text(alloc, method, target)?))
 }
 
-/// The one statement that a target names.
-fn named(alloc: Global, text: Text) -> Result<Seq<Statement>, BodyError>
-    ensures { IfErr result (λ e. e ≡ BodyNoMemory) }
+fn unbuilt_text(unbuilt: Unbuilt) -> &'static [u8]
+    ensures { result.now ≡ spec.unbuilt_text unbuilt }
 {
-    let mut list = Seq::new(alloc);
-    let statement = Statement {
-        text,
-        params: Params::None,
-    };
-    match list.push(statement) {
-        Ok(()) => Ok(list),
-        Err(NoMemory) => {
-            drop(list);
-            Err(BodyError::NoMemory)
-        }
-    }
-}
-
-/// What a request at this path wants of the node.
-fn wanted(path: Path, level: Level, items: Seq<Item>) -> Wanted {
-    match path {
-        Path::Execute => Wanted::Write(items),
-        Path::Request if writes(items.as_slice()) => Wanted::Write(items),
-        Path::Query | Path::Request => match level {
-            Level::None => Wanted::Read(items),
-            Level::Weak | Level::Linearizable => Wanted::LeaderRead(items),
-            Level::Strong => Wanted::Write(items),
-        },
+    match unbuilt {
+        Unbuilt::Transaction => b"bad parameter: transaction",
+        Unbuilt::Mixed => b"not built: a list that writes and reads",
+        Unbuilt::Level => b"bad parameter: level",
+        Unbuilt::Freshness => b"bad parameter: freshness",
+        Unbuilt::Kind => b"not built",
     }
 }
 
 /// Whether what the node says is written as JSON.
 fn is_json(say: &Say) -> bool
-    ensures { result ≡ is_json say.now }
+    ensures { result ≡ spec.is_json say.now }
 {
     match say {
         Say::Refused(_) | Say::Ready | Say::Backup(_) | Say::Moved(_) => false,
@@ -153,7 +110,7 @@ fn is_json(say: &Say) -> bool
 
 /// Where else the same request is to be asked.
 fn location_of(alloc: Global, say: &Say) -> Result<Option<Bytes>, NoMemory>
-    ensures { IfOk result (λ location. location ≡ location_of say.now) }
+    ensures { IfOk result (λ location. location ≡ spec.location_of say.now) }
 {
     match say {
         Say::Moved(address) => Ok(Some(Bytes::new(alloc, address.bytes())?)),
@@ -170,7 +127,7 @@ fn location_of(alloc: Global, say: &Say) -> Result<Option<Bytes>, NoMemory>
 
 /// The reply that says what the node said.
 fn said_reply(alloc: Global, say: &Say, shape: Shape) -> Result<Reply, AskError>
-    ensures { IfOk result (λ reply. reply ≡ said_reply shape say.now) }
+    ensures { IfOk result (λ reply. reply ≡ spec.said_reply shape say.now) }
 {
     let mut body = Vec::new(alloc);
     reply(alloc, say, shape, &mut body)?;
@@ -183,54 +140,73 @@ fn said_reply(alloc: Global, say: &Say, shape: Shape) -> Result<Reply, AskError>
     })
 }
 
-/// Makes the statements ready, puts them to the desk, and answers what the node said.
-fn put_to_desk<J: Naming, Q: Desk<J>, R: Draws>(
+/// The reply that says an answer of the node.
+fn reply_to<J: Naming>(alloc: Global, said: &Said<J>, shape: Shape) -> Result<Reply, AskError>
+    ensures { IfOk result (spec.IsSaid J.start said.now.answer.number shape) }
+{
+    said_reply(alloc, said.say(), shape)
+}
+
+/// Puts an ask that is built to the desk, and says the answer to it.
+fn put_built<J: Naming, Q: Desk<J>>(
     alloc: Global,
     desk: &mut Q,
-    draws: &mut R,
-    moment: u64,
-    path: Path,
-    level: Level,
-    statements: Seq<Statement>,
-) -> Result<Said<J>, AskError> {
-    let items = items_of(alloc, statements.as_slice(), draws, moment);
-    drop(statements);
-    let wanted = wanted(path, level, items?);
-    match desk.number() {
-        Ok(number) => Ok(desk.put(number, wanted)?),
-        Err(error) => {
-            drop(wanted);
-            Err(AskError::from(error))
-        }
+    ask: &Ask,
+    shape: Shape,
+) -> Result<Reply, AskError>
+    requires built { unbuilt_of ask.now.op ≡ None }
+    ensures { IfOk result (λ reply. spec.PutOne (record { told = Q.told; before = Q.asked desk.old; after = Q.asked desk.new }) ask.now × spec.IsSaid J.start ask.now.number shape reply) }
+{
+    let said = desk.put(alloc, ask)?;
+    match reply_to(alloc, &said, shape) {
+        Ok(reply) => Ok(reply),
+        Err(error) => Err(error),
     }
 }
 
-/// Puts what a request wants to the desk, and answers the reply.
-fn ask<J: Naming, Q: Desk<J>, R: Draws>(
+/// Puts an ask to the desk, and says the answer to it; or says what of it isn't built.
+fn put_ask<J: Naming, Q: Desk<J>>(
+    alloc: Global,
+    desk: &mut Q,
+    ask: &Ask,
+    shape: Shape,
+) -> Result<Reply, AskError>
+    ensures { IfOk result (spec.AnswersAsk J.start (record { told = Q.told; before = Q.asked desk.old; after = Q.asked desk.new }) shape ask.now (unbuilt_of ask.now.op)) }
+{
+    match unbuilt_of(&ask.op) {
+        None => put_built(alloc, desk, ask, shape),
+        Some(unbuilt) => plain_words(alloc, 400, unbuilt_text(unbuilt)),
+    }
+}
+
+/// The reply to a request without a defect.
+fn answer<J: Naming, Q: Desk<J>, R: Draws>(
     alloc: Global,
     desk: &mut Q,
     draws: &mut R,
     moment: u64,
-    request: Request,
-    body: &[u8],
+    requested: Requested,
+    target: &[u8],
 ) -> Result<Reply, AskError>
-    ensures { IfOk result (λ reply. IsDefect request body.now reply ⊎ IsSaid J.start request.shape reply) }
+    ensures { IfOk result (spec.IsAnswered J.start (record { told = Q.told; before = Q.asked desk.old; after = Q.asked desk.new }) (record { told = R.told; before = R.words draws.old; after = R.words draws.new; moment = moment }) target.now requested) }
 {
-    let Request {
-        path,
-        statement,
-        level,
-        transaction: _,
-        timeout: _,
-        shape,
-    } = request;
-    match statements(alloc, statement, body) {
-        Ok(statements) => {
-            let said = put_to_desk(alloc, desk, draws, moment, path, level, statements)?;
-            said_reply(alloc, said.say(), shape)
+    let shape = requested.request.shape;
+    let number = match desk.number() {
+        Ok(number) => number,
+        Err(error) => {
+            drop(requested);
+            return Err(AskError::from(error));
         }
-        Err(BodyError::NoMemory) => Err(AskError::NoMemory),
-        Err(error) => no_list(alloc, error),
+    };
+    let asked = ask_of(alloc, &requested, target, number, draws, moment);
+    drop(requested);
+    match asked {
+        Ok(ask) => {
+            let reply = put_ask(alloc, desk, &ask, shape);
+            drop(ask);
+            reply
+        }
+        Err(error) => Err(AskError::from(error)),
     }
 }
 
@@ -244,23 +220,18 @@ fn reply_of<J: Naming, Q: Desk<J>, R: Draws>(
     target: &[u8],
     body: &[u8],
 ) -> Result<Reply, AskError>
-    ensures { IfOk result (IsReplyTo J.start method.now target.now body.now (route_of method.now target.now (length body.now))) }
+    ensures { IfOk result (spec.IsReplyTo J.start (record { told = Q.told; before = Q.asked desk.old; after = Q.asked desk.new }) (record { told = R.told; before = R.words draws.old; after = R.words draws.new; moment = moment }) method.now target.now (requested_of method.now target.now body.now)) }
 {
-    match route(alloc, method, target, body)? {
-        Routed::Refused(refusal) => refused(alloc, refusal, method, target),
-        Routed::Taken(request) => {
-            if request.transaction {
-                drop(request);
-                return plain_words(alloc, 400, b"bad parameter: transaction");
-            }
-            ask(alloc, desk, draws, moment, request, body)
-        }
+    match read_request(alloc, method, target, body) {
+        Ok(requested) => answer(alloc, desk, draws, moment, requested, target),
+        Err(Defect::NoMemory) => Err(AskError::NoMemory),
+        Err(defect) => defect_reply(alloc, defect, method, target),
     }
 }
 
-/// The reply to a request: the first refusal of its path, its method, its parameters and its body; or what a rule of the
-/// node answered; or that memory was wanting.
-#[tactic(auto, using(crate::proofs::Phrases::reply_phrase, crate::proofs::Phrases::routed_phrase))]
+/// The reply to a request: its first defect; or what a rule of the node answered to the ask that it asks for, which was put
+/// to the desk; or what of it isn't built; or that memory was wanting.
+#[tactic(auto, using(crate::proofs::Phrases::reply_phrase, crate::proofs::Phrases::answered_phrase))]
 pub fn answer_request<J: Naming, Q: Desk<J>, R: Draws>(
     alloc: Global,
     desk: &mut Q,
@@ -270,7 +241,7 @@ pub fn answer_request<J: Naming, Q: Desk<J>, R: Draws>(
     target: &[u8],
     body: &[u8],
 ) -> Result<Reply, AskError>
-    ensures reply { IfOk result (IsReply J.start method.now target.now body.now) }
+    ensures reply { IfOk result (spec.IsReply J.start (record { told = Q.told; before = Q.asked desk.old; after = Q.asked desk.new }) (record { told = R.told; before = R.words draws.old; after = R.words draws.new; moment = moment }) method.now target.now body.now) }
     ensures status { IfOk result (λ reply. HasPhrase reply.status) }
 {
     match reply_of(alloc, desk, draws, moment, method, target, body) {

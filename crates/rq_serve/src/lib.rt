@@ -7,7 +7,6 @@ mod ends;
 mod listening;
 mod locked;
 mod port;
-mod preparing;
 mod serving;
 mod words;
 

@@ -24,7 +24,7 @@ struct Exchange {
     answered: &'static str,
 }
 
-const EXCHANGES: [Exchange; 3] = [
+const EXCHANGES: [Exchange; 10] = [
     Exchange {
         target: "/db/execute",
         asked: "[\"CREATE TABLE foo (id INTEGER PRIMARY KEY, name TEXT, age INTEGER)\"]",
@@ -39,6 +39,41 @@ const EXCHANGES: [Exchange; 3] = [
         target: "/db/query?level=none",
         asked: "[\"SELECT * FROM foo\"]",
         answered: "{\"results\":[{\"columns\":[\"id\",\"name\",\"age\"],\"types\":[\"integer\",\"text\",\"integer\"],\"values\":[[1,\"fiona\",20]]}]}",
+    },
+    Exchange {
+        target: "/db/execute",
+        asked: "[[\"INSERT INTO foo(name, age) VALUES(?, ?)\", \"sinead\", 25], [\"INSERT INTO foo(name, age) VALUES(:n, ABS(RANDOM()) * 0)\", {\"n\": \"declan\"}]]",
+        answered: "{\"results\":[{\"last_insert_id\":2,\"rows_affected\":1},{\"last_insert_id\":3,\"rows_affected\":1}]}",
+    },
+    Exchange {
+        target: "/db/request",
+        asked: "[\"UPDATE foo SET name = LENGTH(datetime('now')) WHERE id = 3\", \"INSERT INTO\"]",
+        answered: "{\"results\":[{\"rows_affected\":1},{\"error\":\"incomplete input\"}]}",
+    },
+    Exchange {
+        target: "/db/request?transaction&associative",
+        asked: "[\"SELECT name, age FROM foo WHERE id > 1\"]",
+        answered: "{\"results\":[{\"rows\":[{\"age\":25,\"name\":\"sinead\"},{\"age\":0,\"name\":\"19\"}],\"types\":{\"age\":\"integer\",\"name\":\"text\"}}]}",
+    },
+    Exchange {
+        target: "/db/execute?transaction",
+        asked: "[\"DELETE FROM foo\"]",
+        answered: "bad parameter: transaction",
+    },
+    Exchange {
+        target: "/db/request",
+        asked: "[\"DELETE FROM foo\", \"SELECT 1\"]",
+        answered: "not built: a list that writes and reads",
+    },
+    Exchange {
+        target: "/db/query?level=strong",
+        asked: "[\"SELECT 1\"]",
+        answered: "bad parameter: level",
+    },
+    Exchange {
+        target: "/db/query",
+        asked: "[\"SELECT COUNT(*) FROM foo\"]",
+        answered: "{\"results\":[{\"columns\":[\"COUNT(*)\"],\"types\":[\"\"],\"values\":[[3]]}]}",
     },
 ];
 
