@@ -100,12 +100,7 @@ fn names_in<'a>(scope: &Scope, expr: &'a Expr) -> Option<Defect<'a>>
             let three = names_in(scope, high.get());
             first_of(one, first_of(two, three))
         }
-        Expr::Literal(_)
-        | Expr::Param(_)
-        | Expr::CurrentTimestamp
-        | Expr::CurrentDate
-        | Expr::CurrentTime
-        | Expr::CountAll => None,
+        _ => None,
     }
 }
 
@@ -116,8 +111,7 @@ fn column_allowed<'a>(allowed: Allowed) -> Option<Defect<'a>>
 {
     match allowed {
         Allowed::Columns => None,
-        Allowed::Aggregates => Some(Defect::Misuse),
-        Allowed::Neither => Some(Defect::Misuse),
+        _ => Some(Defect::Misuse),
     }
 }
 
@@ -125,9 +119,8 @@ fn count_allowed<'a>(allowed: Allowed) -> Option<Defect<'a>>
     ensures { option_map defect_error result ≡ spec.aggregate_allowed [] allowed }
 {
     match allowed {
-        Allowed::Columns => Some(Defect::Misuse),
         Allowed::Aggregates => None,
-        Allowed::Neither => Some(Defect::Misuse),
+        _ => Some(Defect::Misuse),
     }
 }
 
@@ -154,15 +147,10 @@ fn arguments_allowed<'a>(
 {
     match function {
         Function::Aggregate(_) => match allowed {
-            Allowed::Columns => Some(Defect::Misuse),
             Allowed::Aggregates => calls_in_all(Allowed::Columns, args),
-            Allowed::Neither => Some(Defect::Misuse),
+            _ => Some(Defect::Misuse),
         },
-        Function::Unary(_)
-        | Function::Coalesce
-        | Function::IfNull
-        | Function::Random
-        | Function::RandomBlob => calls_in_all(allowed, args),
+        _ => calls_in_all(allowed, args),
     }
 }
 
@@ -190,10 +178,7 @@ fn calls_in<'a>(allowed: Allowed, expr: &'a Expr) -> Option<Defect<'a>>
 {
     match expr {
         Expr::Name(_) => column_allowed(allowed),
-        Expr::Qualified {
-            table: _,
-            column: _,
-        } => column_allowed(allowed),
+        Expr::Qualified { .. } => column_allowed(allowed),
         Expr::CountAll => count_allowed(allowed),
         Expr::Call { name, args } => call_allowed(name, args.as_slice(), allowed),
         Expr::Minus(operand) => calls_in(allowed, operand.get()),
@@ -223,11 +208,7 @@ fn calls_in<'a>(allowed: Allowed, expr: &'a Expr) -> Option<Defect<'a>>
             let three = calls_in(allowed, high.get());
             first_of(one, first_of(two, three))
         }
-        Expr::Literal(_)
-        | Expr::Param(_)
-        | Expr::CurrentTimestamp
-        | Expr::CurrentDate
-        | Expr::CurrentTime => None,
+        _ => None,
     }
 }
 
@@ -237,15 +218,8 @@ fn is_aggregate(function: Option<Function>) -> bool
     ensures { result ≡ spec.is_aggregate function }
 {
     match function {
-        None => false,
-        Some(function) => match function {
-            Function::Aggregate(_) => true,
-            Function::Unary(_)
-            | Function::Coalesce
-            | Function::IfNull
-            | Function::Random
-            | Function::RandomBlob => false,
-        },
+        Some(Function::Aggregate(_)) => true,
+        _ => false,
     }
 }
 
@@ -286,16 +260,7 @@ fn has_aggregate(expr: &Expr) -> bool
             low,
             high,
         } => has_aggregate(left.get()) || (has_aggregate(low.get()) || has_aggregate(high.get())),
-        Expr::Literal(_)
-        | Expr::Param(_)
-        | Expr::Name(_)
-        | Expr::Qualified {
-            table: _,
-            column: _,
-        }
-        | Expr::CurrentTimestamp
-        | Expr::CurrentDate
-        | Expr::CurrentTime => false,
+        _ => false,
     }
 }
 

@@ -91,7 +91,13 @@ pub fn headings(
     let mut texts = Seq::new(alloc);
     for item in items {
         match heading(alloc, scope, columns, *item) {
-            Ok(text) => texts.push(text)?,
+            Ok(text) => match texts.push(text) {
+                Ok(()) => {}
+                Err(e) => {
+                    drop(texts);
+                    return Err(e);
+                }
+            },
             Err(e) => {
                 drop(texts);
                 return Err(e);
@@ -112,7 +118,13 @@ pub fn types(
     let mut texts = Seq::new(alloc);
     for item in items {
         match type_of(alloc, column_of(scope, columns, *item)) {
-            Ok(text) => texts.push(text)?,
+            Ok(text) => match texts.push(text) {
+                Ok(()) => {}
+                Err(e) => {
+                    drop(texts);
+                    return Err(e);
+                }
+            },
             Err(e) => {
                 drop(texts);
                 return Err(e);

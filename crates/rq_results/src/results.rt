@@ -22,12 +22,14 @@ pub enum Shown<'a> {
     },
 }
 
-#[tactic(auto, using(crate::proofs::Lists::columns_next))]
 fn push_columns(columns: usize, into: &mut Vec<Shown<'_>>) -> Result<(), NoMemory>
     ensures { OnOk result (map shown into.new.items ≡ map shown into.old.items ++ spec.columns_before columns) }
 {
     for i in 0..columns {
-        push(into, Shown::Column(i))?;
+        match push(into, Shown::Column(i)) {
+            Ok(()) => {}
+            Err(e) => return Err(e),
+        }
     }
     Ok(())
 }
@@ -56,7 +58,13 @@ pub fn spread<'a>(
 {
     let mut all = Vec::new(alloc);
     for item in items {
-        push_item(columns, item, &mut all)?;
+        match push_item(columns, item, &mut all) {
+            Ok(()) => {}
+            Err(e) => {
+                drop(all);
+                return Err(e);
+            }
+        }
     }
     Ok(all)
 }

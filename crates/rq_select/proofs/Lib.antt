@@ -1,5 +1,6 @@
 pub mod Viewing
 pub mod Plans
+pub mod Steps
 pub mod OneAnswer
 pub mod Answering
 pub mod Picking

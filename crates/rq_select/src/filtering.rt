@@ -1,6 +1,6 @@
 //! WHERE.
 
-ghost use Rattle.std.specs.Prelude.{[], map, Ok};
+ghost use Rattle.std.specs.Prelude.{◌≡◌, if◌then◌else◌, [], ◌∷◌, ◌++◌, map, Ok, OnOk};
 ghost use Rattle.rq_eval.specs.Names.{row_of};
 ghost use Rattle.rq_eval.specs.Outcome.{Answers, then_with};
 ghost use Rattle.rq_select.specs.Planned as planned;
@@ -9,7 +9,7 @@ ghost use Rattle.rq_select.specs.Select as spec;
 use rq_eval::{EvalError, ResolvedExpr, RowView, StmtError, evaluate};
 use rq_operators::condition;
 use rq_results::push;
-use rq_values::Value;
+use rq_values::{NoMemory, Value};
 use std::alloc::Global;
 
 /// Whether a condition is true; NULL is not.
@@ -43,6 +43,13 @@ pub fn passes(
     }
 }
 
+/// Adds a row at the end where it passed.
+fn keep<'r>(left: &mut Vec<RowView<'r>>, row: RowView<'r>, passed: bool) -> Result<(), NoMemory>
+    ensures { OnOk result (map row_of left.new.items ≡ (if passed then map row_of left.old.items ++ row_of row.entry ∷ [] else map row_of left.old.items)) }
+{
+    if passed { push(left, row) } else { Ok(()) }
+}
+
 /// The rows that pass, in their order.
 pub fn filtered<'r>(
     alloc: Global,
@@ -54,9 +61,17 @@ pub fn filtered<'r>(
     let mut left = Vec::new(alloc);
     for row in rows {
         match passes(alloc, filter, row) {
-            Ok(true) => push(&mut left, *row)?,
-            Ok(false) => {}
-            Err(e) => return Err(e),
+            Ok(passed) => match keep(&mut left, *row, passed) {
+                Ok(()) => {}
+                Err(_) => {
+                    drop(left);
+                    return Err(EvalError::NoMemory);
+                }
+            },
+            Err(e) => {
+                drop(left);
+                return Err(e);
+            }
         }
     }
     Ok(left)

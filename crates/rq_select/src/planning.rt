@@ -67,7 +67,13 @@ fn planned_results(
     let mut results = Items::new(alloc);
     for item in items {
         match planned_result(alloc, scope, over_all, *item) {
-            Ok(result) => results.push(result)?,
+            Ok(result) => match results.push(result) {
+                Ok(()) => {}
+                Err(_) => {
+                    drop(results);
+                    return Err(NoMemory);
+                }
+            },
             Err(e) => {
                 drop(results);
                 return Err(e);

@@ -47,7 +47,13 @@ fn results_of(
     let mut values = Seq::new(alloc);
     for expr in results {
         match evaluate(alloc, expr, row, all) {
-            Ok(value) => values.push(value)?,
+            Ok(value) => match values.push(value) {
+                Ok(()) => {}
+                Err(_) => {
+                    drop(values);
+                    return Err(EvalError::NoMemory);
+                }
+            },
             Err(e) => {
                 drop(values);
                 return Err(e);
@@ -106,7 +112,10 @@ fn sort_terms(
 {
     for term in terms {
         match term_value(alloc, &term.by, row, values) {
-            Ok(value) => push(into, sort_term(term.descending, value))?,
+            Ok(value) => match push(into, sort_term(term.descending, value)) {
+                Ok(()) => {}
+                Err(_) => return Err(EvalError::NoMemory),
+            },
             Err(e) => return Err(e),
         }
     }
@@ -166,7 +175,13 @@ fn entries_of(
     let mut entries = Vec::new(alloc);
     for row in rows {
         match entry_of(alloc, plan, row, all) {
-            Ok(entry) => push(&mut entries, entry)?,
+            Ok(entry) => match push(&mut entries, entry) {
+                Ok(()) => {}
+                Err(_) => {
+                    drop(entries);
+                    return Err(EvalError::NoMemory);
+                }
+            },
             Err(e) => {
                 drop(entries);
                 return Err(e);

@@ -122,7 +122,13 @@ pub fn planned_terms(
     let mut terms = Items::new(alloc);
     for term in order {
         match planned_term(alloc, scope, items, term) {
-            Ok(term) => terms.push(term)?,
+            Ok(term) => match terms.push(term) {
+                Ok(()) => {}
+                Err(_) => {
+                    drop(terms);
+                    return Err(EvalError::NoMemory);
+                }
+            },
             Err(e) => {
                 drop(terms);
                 return Err(e);
