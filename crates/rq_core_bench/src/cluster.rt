@@ -2,8 +2,8 @@
 use rq_core::Core;
 use rq_log::{LogEntry, Moves, Outgoing, Saying};
 use rq_packets::{decode_packet, encode_outgoing};
-use rq_values::{Addr, Bytes, Id, NoMemory, Seq};
-use rq_wire::{Body, Config, Entry, Member};
+use rq_values::{Bytes, Id, MAX_COMMAND, decode_whole};
+use rq_wire::{Body, Config, Entry};
 use std::alloc::Global;
 
 /// The nodes, and the bytes of the packets that are on their way.
@@ -36,39 +36,12 @@ fn node_of(id: Id) -> usize {
     }
 }
 
-fn member(alloc: Global, node: usize) -> Option<Member> {
-    let id = id_of(node)?;
-    let http = Addr::new(alloc, b"n:4001").ok()??;
-    match Addr::new(alloc, b"n:4002") {
-        Ok(Some(raft)) => Some(Member {
-            id,
-            voter: true,
-            http,
-            raft,
-        }),
-        _ => {
-            drop(http);
-            None
-        }
-    }
-}
-
-fn add_members(alloc: Global, members: &mut Seq<Member>) -> Option<()> {
-    for node in 0..3 {
-        members.push(member(alloc, node)?).ok()?;
-    }
-    Some(())
-}
+/// The spelling of three voters.
+const VOTERS: &[u8] =
+    b"\x03\0\0\0\x02\0\0\0n1\x01\x06\0\0\0n:4001\x06\0\0\0n:4002\x02\0\0\0n2\x01\x06\0\0\0n:4001\x06\0\0\0n:4002\x02\0\0\0n3\x01\x06\0\0\0n:4001\x06\0\0\0n:4002";
 
 fn voters(alloc: Global) -> Option<Config> {
-    let mut members = Seq::new(alloc);
-    match add_members(alloc, &mut members) {
-        Some(()) => Config::new(members),
-        None => {
-            drop(members);
-            None
-        }
-    }
+    decode_whole::<Config>(alloc, VOTERS, MAX_COMMAND).ok()
 }
 
 impl Cluster {

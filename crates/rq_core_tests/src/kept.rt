@@ -53,7 +53,7 @@ impl Kept {
             Ok(first) => Ok(Core::new(id, first, self.term, self.vote, log)),
             Err(error) => {
                 drop(log);
-                Err(error)
+                Err(error.into())
             }
         }
     }

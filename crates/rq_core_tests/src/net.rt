@@ -4,8 +4,8 @@ use crate::line::{Line, What};
 use rq_core::Core;
 use rq_log::{Moves, Outgoing, Saying};
 use rq_packets::{decode_packet, encode_outgoing};
-use rq_values::{Addr, Bytes, Id, Seq};
-use rq_wire::{Body, Config, Entry, Member};
+use rq_values::{Bytes, DecodeError, Id, MAX_COMMAND, decode_whole};
+use rq_wire::{Body, Config, Entry};
 use std::alloc::Global;
 use std::test::Fail;
 
@@ -31,25 +31,24 @@ fn node_of(id: Id) -> usize {
     0
 }
 
-fn member(alloc: Global, node: usize) -> Result<Member, Fail> {
-    let id = id_of(node).ok_or("no id")?;
-    let http = Addr::new(alloc, b"n:4001")?.ok_or("no address")?;
-    let raft = Addr::new(alloc, b"n:4002")?.ok_or("no address")?;
-    Ok(Member {
-        id,
-        voter: true,
-        http,
-        raft,
-    })
-}
+/// The spellings of the first two, three and five nodes, all of them voters.
+const TWO: &[u8] =
+    b"\x02\0\0\0\x02\0\0\0n1\x01\x06\0\0\0n:4001\x06\0\0\0n:4002\x02\0\0\0n2\x01\x06\0\0\0n:4001\x06\0\0\0n:4002";
 
-/// The first so many nodes, all of them voters.
-pub fn voters(alloc: Global, count: usize) -> Result<Config, Fail> {
-    let mut members = Seq::new(alloc);
-    for node in 0..count {
-        members.push(member(alloc, node.saturating_add(1))?)?;
-    }
-    Ok(Config::new(members).ok_or("ids that don't rise")?)
+const THREE: &[u8] =
+    b"\x03\0\0\0\x02\0\0\0n1\x01\x06\0\0\0n:4001\x06\0\0\0n:4002\x02\0\0\0n2\x01\x06\0\0\0n:4001\x06\0\0\0n:4002\x02\0\0\0n3\x01\x06\0\0\0n:4001\x06\0\0\0n:4002";
+
+const FIVE: &[u8] =
+    b"\x05\0\0\0\x02\0\0\0n1\x01\x06\0\0\0n:4001\x06\0\0\0n:4002\x02\0\0\0n2\x01\x06\0\0\0n:4001\x06\0\0\0n:4002\x02\0\0\0n3\x01\x06\0\0\0n:4001\x06\0\0\0n:4002\x02\0\0\0n4\x01\x06\0\0\0n:4001\x06\0\0\0n:4002\x02\0\0\0n5\x01\x06\0\0\0n:4001\x06\0\0\0n:4002";
+
+/// The first two, three or five nodes, all of them voters.
+pub fn voters(alloc: Global, count: usize) -> Result<Config, DecodeError> {
+    let bytes = match count {
+        2 => TWO,
+        3 => THREE,
+        _ => FIVE,
+    };
+    decode_whole::<Config>(alloc, bytes, MAX_COMMAND)
 }
 
 /// What is sent, as a line.
