@@ -43,7 +43,7 @@ def used(pid):
 
 
 def run(program, parts, heard):
-    """Feeds the program its script, and calls heard with the number of each answer and the processor time so far."""
+    """Feeds the program its script, and calls heard with the number of each answer, the processor time so far and how many results have rows."""
     child = subprocess.Popen([program, "cluster"], stdin=subprocess.PIPE, stdout=subprocess.PIPE)
 
     def feed():
@@ -57,7 +57,7 @@ def run(program, parts, heard):
         if line.startswith(b"answer "):
             if b'"error"' in line:
                 sys.exit("a statement was refused: " + line[:200].decode())
-            heard(int(line.split()[1]), used(child.pid))
+            heard(int(line.split()[1]), used(child.pid), line.count(b'"values"'))
     feeder.join()
     if child.wait():
         sys.exit(f"{program} ended with status {child.returncode}")
@@ -66,7 +66,7 @@ def run(program, parts, heard):
 def time_inserts(rows, program):
     last = [0.0]
 
-    def heard(number, now):
+    def heard(number, now, found):
         if number > 1:
             print(f"rows {(number - 2) * LIST} to {(number - 1) * LIST}: {(now - last[0]) / LIST * 1e6:.1f} us a statement", flush=True)
         last[0] = now
@@ -80,9 +80,11 @@ def time_selects(rows, program):
     last = [0.0]
     columns = ["id", "u"] * 3
 
-    def heard(number, now):
+    def heard(number, now, found):
         place = number - lists - 2
         if place >= 0:
+            if found != LIST:
+                sys.exit(f"{LIST - found} rows weren't found")
             print(f"{rows} rows, WHERE {columns[place]} = ..: {(now - last[0]) / LIST * 1e6:.1f} us a statement", flush=True)
         last[0] = now
 

@@ -3,7 +3,7 @@ use rq_engine::{Engine, Outcome, Replica, SharedEngine};
 use rq_settle::prepare;
 use rq_statement::{Command, Item, Res, StatementList};
 use rq_tables::Tables;
-use rq_values::{Id, Seq, Text, Value};
+use rq_values::{Id, NoMemory, Seq, Text, Value};
 use std::alloc::Global;
 use std::test::Fail;
 
@@ -171,10 +171,18 @@ fn command_of(alloc: Global, line: &str) -> Result<Command, Fail> {
     Ok(Command::Request(list_of(alloc, false, line)?))
 }
 
+/// What a command answers. With no memory nothing has happened, so that a second try answers the same.
+fn answer(alloc: Global, tables: &mut Tables, command: &Command) -> Result<Outcome, NoMemory> {
+    match tables.apply(alloc, command) {
+        Ok(outcome) => Ok(outcome),
+        Err(_) => tables.apply(alloc, command),
+    }
+}
+
 /// What a line of a script answers.
 fn reply(alloc: Global, tables: &mut Tables, line: &str) -> Result<String, Fail> {
     let command = command_of(alloc, line)?;
-    let outcome = tables.apply(alloc, &command);
+    let outcome = answer(alloc, tables, &command);
     drop(command);
     let outcome = outcome?;
     let text = outcome_text(alloc, &outcome);

@@ -430,7 +430,7 @@ const LISTS: [(&str, &str); 23] = [
 ];
 
 /// What is wrong in two ways has the error that is looked for first.
-const ORDER: [(&str, &str); 27] = [
+const ORDER: [(&str, &str); 53] = [
     (
         "CREATE TABLE t (id INTEGER PRIMARY KEY, n INTEGER NOT NULL, u TEXT UNIQUE)",
         "0 @0",
@@ -508,6 +508,92 @@ const ORDER: [(&str, &str); 27] = [
         "UPDATE t SET n = 'x', id = NULL",
         "cannot store TEXT value in INTEGER column t.n",
     ),
+    (
+        "INSERT INTO t VALUES (5, 'x', 'k'), (6, -'a', 'l')",
+        "cannot store TEXT value in INTEGER column t.n",
+    ),
+    (
+        "INSERT INTO t VALUES (5, -'a', 'k'), (6, 'x', 'l')",
+        "not an integer",
+    ),
+    ("INSERT INTO t VALUES (5, 5, 'k')", "1 @5"),
+    (
+        "INSERT INTO t SELECT 'x', n / (n - 5) + LENGTH(DATE(u || 'x')), u FROM t",
+        "not a time text",
+    ),
+    (
+        "INSERT INTO t SELECT 'x', 9223372036854775803 + n, u FROM t",
+        "integer overflow",
+    ),
+    (
+        "INSERT INTO t SELECT 'x', n, u FROM t",
+        "cannot store TEXT value in INTEGER column t.id",
+    ),
+    (
+        "UPDATE t SET n = 'x' WHERE 9223372036854775803 + n",
+        "integer overflow",
+    ),
+    (
+        "UPDATE t SET n = 9223372036854775803 + n, u = X''",
+        "cannot store BLOB value in TEXT column t.u",
+    ),
+    (
+        "UPDATE t SET u = X'', n = 9223372036854775803 + n WHERE id = 5",
+        "integer overflow",
+    ),
+    (
+        "UPDATE t SET u = 'k', n = 9223372036854775803 + n",
+        "UNIQUE constraint failed: t.u",
+    ),
+    ("DELETE FROM t WHERE -u", "not an integer"),
+    (
+        "SELECT 1 FROM t ORDER BY 9 LIMIT 'a'",
+        "ORDER BY term out of range",
+    ),
+    (
+        "SELECT n, COUNT(*) FROM t ORDER BY 9",
+        "misuse of aggregate",
+    ),
+    (
+        "SELECT ABS(), NOSUCH(1) FROM t",
+        "wrong number of arguments to function ABS()",
+    ),
+    (
+        "SELECT 1 FROM t WHERE x ORDER BY NOSUCH(1)",
+        "no such column: x",
+    ),
+    ("SELECT t.x FROM t WHERE NOSUCH(1)", "no such column: t.x"),
+    (
+        "CREATE TABLE u (a TEXT, A TEXT, b TEXT PRIMARY KEY, c TEXT PRIMARY KEY)",
+        "duplicate column name: A",
+    ),
+    ("CREATE TABLE u (a BLOB, b BLOB NOT NULL UNIQUE)", "0 @0"),
+    (
+        "INSERT INTO u VALUES (1, NULL)",
+        "cannot store INTEGER value in BLOB column u.a",
+    ),
+    (
+        "INSERT INTO u VALUES (NULL, 'x')",
+        "cannot store TEXT value in BLOB column u.b",
+    ),
+    (
+        "INSERT INTO u (rowid, b) VALUES (9223372036854775807, NULL)",
+        "rowid out of range",
+    ),
+    ("INSERT INTO u (b, rowid) VALUES (X'00', -1)", "1 @-1"),
+    (
+        "INSERT INTO u (b, rowid) VALUES (NULL, -1)",
+        "NOT NULL constraint failed: u.b",
+    ),
+    (
+        "INSERT INTO u (b, rowid) VALUES (X'00', -1)",
+        "UNIQUE constraint failed: u.rowid",
+    ),
+    (
+        "INSERT INTO u (b) VALUES (X'00')",
+        "UNIQUE constraint failed: u.b",
+    ),
+    ("DELETE FROM t WHERE id = 5", "1 @0"),
     ("SELECT * FROM t", "id n u: (1, 1, 'a')"),
 ];
 
