@@ -1,10 +1,8 @@
 -- What a log leaves is valid.
-use Rattle.std.proofs.Common.{◌≡◌, ◌≤◌, ◌+◌, ℕ, Bool, true, List, [], ◌∷◌, length, map, Option, Some, None, refl, sym, ap, subst, ◌∙◌, arith, zero, suc}
-use Rattle.std.specs.Prelude.{◌&&◌}
+use Rattle.std.proofs.Common.{◌≡◌, ◌≤◌, ◌+◌, ℕ, true, List, [], ◌∷◌, length, map, Option, Some, None, refl, sym, ap, subst, ◌∙◌, arith}
 use Rattle.std.specs.List.{sum_by}
 use Rattle.std.specs.FinMap as fin
 use Rattle.std.specs.FinMap.{get-empty, len-empty}
-use Rattle.rq_grammar.specs.Proper.{all_of}
 use Rattle.rq_statement.specs.declared.command.Command.{Command}
 use Rattle.rq_meaning.specs.Database.{Table, Database, name_cmp, table_size, tables_size, size_limit}
 use Rattle.rq_meaning.specs.Valid.{Valid}

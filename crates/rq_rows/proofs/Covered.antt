@@ -7,7 +7,6 @@ use Rattle.std.specs.FinMap as fin
 use Rattle.std.proofs.lemmas.Option.{slice_get_within, slice_get-get_or}
 use Rattle.rq_values.specs.declared.value.Value.{Value}
 use Rattle.rq_values.specs.declared.value.Value.TheVariants.{Int}
-use Rattle.rq_values.specs.Order.{value_cmp}
 use Rattle.rq_grammar.specs.declared.stmt.ColumnDef.{ColumnDef}
 use Rattle.rq_rows.specs.Rows.{Filled, has, is_same, is_rowid, is_unique, key_of, is_taken}
 use Rattle.rq_rows.specs.Holding.{held, same}

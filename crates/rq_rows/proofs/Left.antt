@@ -1,10 +1,10 @@
 -- Entries that no row needs go.
-use Rattle.std.proofs.Common.{◌≡◌, ℕ, ℤ, Bool, true, false, cond, List, Option, Some, None, refl, sym, ap, subst, ◌∙◌, ◌<◌, ◌≤◌, ◌+◌, arith, ◌⊎◌, inl, inr}
+use Rattle.std.proofs.Common.{◌≡◌, ℕ, ℤ, Bool, true, false, cond, List, Some, None, refl, sym, ap, subst, ◌∙◌, ◌<◌, ◌≤◌, arith, ◌⊎◌, inl, inr}
 use Rattle.std.specs.Prelude.{slice_get, slice_set, is_some}
 use Rattle.std.specs.FinMap as fin
 use Rattle.rq_values.specs.declared.value.Value.{Value}
 use Rattle.rq_grammar.specs.declared.stmt.ColumnDef.{ColumnDef}
-use Rattle.rq_rows.specs.Rows.{Filled, is_same, is_unique, key_of}
+use Rattle.rq_rows.specs.Rows.{Filled, is_same, is_unique}
 use Rattle.rq_rows.specs.Holding.{held, same}
 use Rattle.rq_rows.specs.Covering.{Held, Cover, Covers, probe_row}
 use Rattle.rq_rows.proofs.Keys.{compared_itself}

@@ -5,7 +5,7 @@ use Rattle.std.specs.Cmp.{int_cmp_total, eq_by_cmp_equiv}
 use Rattle.std.specs.Map.{lookup}
 use Rattle.std.specs.BTreeMap.{is_at}
 use Rattle.std.specs.FinMap as fin
-use Rattle.std.specs.FinMap.{FinMap, get-insert, get-remove, get-empty, get-from_entries, same_map, int_cmp-IsAntisymmetric}
+use Rattle.std.specs.FinMap.{get-insert, get-remove, get-empty, get-from_entries, same_map, int_cmp-IsAntisymmetric}
 use Rattle.std.specs.FinMap.Entries.{find}
 use Rattle.rq_rows.specs.Rows.{Filled}
 use Rattle.rq_rows.specs.declared.change.Change.{Change}

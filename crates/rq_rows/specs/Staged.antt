@@ -1,13 +1,12 @@
 -- Rows whose changes can be taken back.
-use Rattle.std.specs.Prelude.{ℕ, ℤ, ◌≡◌, List, [], ◌∷◌, length, drop, IsSome, refl}
-use Rattle.std.specs.Ordering.{int_cmp}
+use Rattle.std.specs.Prelude.{ℕ, ◌≡◌, List, [], ◌∷◌, length, drop, IsSome, refl}
 use Rattle.std.specs.FinMap as fin
 use Rattle.std.specs.Coded.{Coded, code_by, coded×, coded_ℤ, coded_list}
 use Rattle.rq_values.specs.declared.value.Value.{Value}
 use Rattle.rq_grammar.specs.declared.stmt.ColumnDef.{ColumnDef}
 use Rattle.rq_rows.specs.Rows.{Filled}
 use Rattle.rq_rows.specs.declared.change.Change.{Change}
-use Rattle.rq_rows.specs.Slots.{Slot, Slots, slots_of, joined, live, undone}
+use Rattle.rq_rows.specs.Slots.{Slots, joined, live, undone}
 use Rattle.rq_rows.specs.Covering.{Held, Covers, Valid, HasHolders}
 
 -- the rows as the command found them, as the statement did, and as they are

@@ -1,4 +1,4 @@
-use Rattle.std.proofs.Common.{Some, None, cond, ap, sym, ◌∙◌, w64, FitsSigned, rules}
+use Rattle.std.proofs.Common.{sym, ◌∙◌, w64, FitsSigned, rules}
 use Rattle.std.proofs.lemmas.Int.{to_z-of_z}
 use Rattle.rq_rows.specs.Slots.{slots_of, live}
 use Rattle.rq_rows.proofs.Left.{cover_less}

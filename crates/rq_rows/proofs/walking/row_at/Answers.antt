@@ -1,6 +1,5 @@
 use Rattle.std.proofs.Common.{ap, sym, ◌∙◌, Some, w64, FitsSigned}
 use Rattle.std.proofs.lemmas.Int.{to_z-of_z}
-use Rattle.std.specs.FinMap as fin
 use Rattle.rq_rows.specs.Slots.{slots_of, joined}
 use Rattle.rq_rows.proofs.Live.{get_live, get_slots}
 use Rattle.rq_rows.proofs.walking.row_at.Goals as goal

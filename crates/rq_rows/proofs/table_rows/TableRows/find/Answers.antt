@@ -1,4 +1,4 @@
-use Rattle.std.proofs.Common.{None, ap, sym, subst, ◌∙◌}
+use Rattle.std.proofs.Common.{ap, sym, subst, ◌∙◌}
 use Rattle.rq_rows.specs.Covering.{Finds, probe}
 use Rattle.rq_rows.proofs.Finding.{there_is, finds, none_has}
 use Rattle.rq_rows.proofs.table_rows.TableRows.find.Goals as goal
