@@ -1,9 +1,11 @@
 //! A bounded queue whose items are numbered.
-ghost use Rattle.std.specs.Prelude.{◌≡◌, ℕ, ◌+◌, ◌-◌, ◌<◌, ◌≤◌, ◌^◌, ◌↔◌, List, [], ◌∷◌, ◌++◌, length, take, drop, slice_get, Some, IfOk, IfErr, IfSome, OnOk, OnErr, IsErr, IsNone};
+ghost use Rattle.std.specs.Prelude.{◌≡◌, ℕ, ◌+◌, ◌-◌, ◌<◌, ◌≤◌, ◌^◌, ◌↔◌, List, [], ◌∷◌, ◌++◌, length, take, drop, slice_get, slice_set, Some, IfOk, IfErr, IfSome, OnOk, OnErr, IsErr, IsNone};
+ghost use Rattle.std.specs.Borrow.{LendsIf, sem};
 ghost use Rattle.std.specs.Vec.{vec_len, vec_capacity};
 ghost use Rattle.std.specs.VecDeque.{deque_len, deque_capacity};
 ghost use Rattle.rq_queue.specs.Numbers.{Contents, first_number, numbered, with_numbers};
 ghost use Rattle.rq_queue.specs.declared.queue.PutError.TheVariants.{Full};
+ghost use Rattle.rq_queue.specs.contracts.queue.Queue.{the_row};
 
 use rq_values::NoMemory;
 use std::alloc::Global;
@@ -117,7 +119,11 @@ impl<T: Drop> Queue<T> {
     }
 
     /// The item at this position, from 0, to be changed.
-    pub fn get_mut(&mut self, position: usize) -> Option<&mut T> {
+    pub fn get_mut(&mut self, position: usize) -> Option<&mut T>
+        ensures* writes_back { sem 𝓛 (LendsIf (the_row T.row) T.row self.entry result (λ item. record self.old { items = slice_set self.old.items position item }) self.old) }
+        ensures some { IfSome result (λ item. slice_get self.old.items position ≡ Some item.now) }
+        ensures none { IsNone result ↔ (length self.old.items ≤ position) }
+    {
         self.items.get_mut(position)
     }
 

@@ -1,0 +1,10 @@
+pub mod Applied
+pub mod Counted
+pub mod Files
+pub mod Held
+pub mod Keeping
+pub mod Opening
+pub mod Queued
+pub mod Reading
+pub mod Storing
+pub mod Turned
