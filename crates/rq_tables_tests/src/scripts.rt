@@ -642,6 +642,34 @@ const COMMANDS: [(&str, &str); 17] = [
     ("? SELECT a FROM t", "a: (1) (2) (6)"),
 ];
 
+/// Tables grow until they are full: rows of 524,288 bytes, twice as many with each statement.
+const FULL: [(&str, &str); 15] = [
+    ("CREATE TABLE t (a TEXT)", "0 @0"),
+    (
+        "INSERT INTO t VALUES ('xxxxxxxxxxxxxxxxxxxxxxxxxxxxxxxx')",
+        "1 @1",
+    ),
+    (
+        "UPDATE t SET a = a || a || a || a | UPDATE t SET a = a || a || a || a | UPDATE t SET a = a || a || a || a",
+        "1 @0 | 1 @0 | 1 @0",
+    ),
+    (
+        "UPDATE t SET a = a || a || a || a | UPDATE t SET a = a || a || a || a | UPDATE t SET a = a || a || a || a",
+        "1 @0 | 1 @0 | 1 @0",
+    ),
+    ("UPDATE t SET a = a || a || a || a", "1 @0"),
+    ("INSERT INTO t SELECT a FROM t", "1 @2"),
+    ("INSERT INTO t SELECT a FROM t", "2 @4"),
+    ("INSERT INTO t SELECT a FROM t", "4 @8"),
+    ("INSERT INTO t SELECT a FROM t", "8 @16"),
+    ("INSERT INTO t SELECT a FROM t", "16 @32"),
+    ("INSERT INTO t SELECT a FROM t", "32 @64"),
+    ("INSERT INTO t SELECT a FROM t", "64 @128"),
+    ("INSERT INTO t SELECT a FROM t", "128 @256"),
+    ("INSERT INTO t SELECT a FROM t", "database or disk is full"),
+    ("SELECT COUNT(*) FROM t", "COUNT(*): (256)"),
+];
+
 #[test]
 fn create_and_drop(rt: HostRuntime) -> Result<(), Fail> {
     assert_eq!(rt; differences(rt.alloc(), &TABLES)?.as_str(), "");
@@ -675,6 +703,12 @@ fn lists_and_transactions(rt: HostRuntime) -> Result<(), Fail> {
 #[test]
 fn errors_in_their_order(rt: HostRuntime) -> Result<(), Fail> {
     assert_eq!(rt; differences(rt.alloc(), &ORDER)?.as_str(), "");
+    Ok(())
+}
+
+#[test]
+fn tables_that_are_full(rt: HostRuntime) -> Result<(), Fail> {
+    assert_eq!(rt; differences(rt.alloc(), &FULL)?.as_str(), "");
     Ok(())
 }
 
